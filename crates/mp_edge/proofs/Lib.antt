@@ -1,0 +1,3 @@
+pub mod CausesLemmas
+pub mod ToldLemmas
+pub mod PiecesLemmas
