@@ -1,0 +1,4 @@
+pub mod DepartureLemmas
+pub mod ListingLemmas
+pub mod TextLemmas
+pub mod TopLemmas

@@ -1,0 +1,5 @@
+pub mod Forms
+pub mod Departure
+pub mod Listing
+pub mod Reading
+pub mod Top

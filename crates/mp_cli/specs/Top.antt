@@ -1,0 +1,82 @@
+-- What the top calls promise, form by form and status by status.
+use Rattle.std.specs.Prelude.{◌≡◌, ℕ, ◌<◌, ◌≤◌, Bool, true, false, List, [], length, Option, Some, None, ⊤, ◌⊎◌}
+use Rattle.std.specs.Io.KnownBytes.{Consumes, IsAtEnd}
+use Rattle.mp_base.specs.declared.limits.TheConstants.{SCRIPT_LIMIT}
+use Rattle.mp_base.specs.Text.{lines_of}
+use Rattle.mp_edge.specs.Told.{Grows, IsFront}
+use Rattle.mp_cli.specs.Listing.{text_listing}
+use Rattle.mp_cli.specs.declared.forms.Form.{Form}
+use Rattle.mp_cli.specs.declared.forms.Form.TheVariants as form
+use Rattle.mp_cli.specs.declared.status.Status.{Status}
+use Rattle.mp_cli.specs.declared.status.Status.TheVariants as status
+
+-- the number with which the program exits
+abbrev pub number_of : Status → ℕ
+number_of status.Done = 0
+number_of status.Words = 1
+number_of status.ReadFault = 2
+number_of status.WriteFault = 3
+number_of status.Memory = 4
+number_of status.ScriptLimit = 5
+
+-- whether a call that ended so met a read, or a write, that failed
+abbrev pub read_failed_at : Status → Bool
+read_failed_at status.Done = false
+read_failed_at status.Words = false
+read_failed_at status.ReadFault = true
+read_failed_at status.WriteFault = false
+read_failed_at status.Memory = false
+read_failed_at status.ScriptLimit = false
+
+abbrev pub write_failed_at : Status → Bool
+write_failed_at status.Done = false
+write_failed_at status.Words = false
+write_failed_at status.ReadFault = false
+write_failed_at status.WriteFault = true
+write_failed_at status.Memory = false
+write_failed_at status.ScriptLimit = false
+
+-- the answer to all the bytes that are read
+abbrev pub transcript_of : Form → List ℕ → List ℕ
+transcript_of form.List taken = text_listing (lines_of taken)
+
+-- what is answered of these bytes before the end is known
+abbrev pub so_far_of : Form → List ℕ → List ℕ
+so_far_of form.List taken = []
+
+-- What was written is the front of the answer, and of the answer so far where something is left.
+abbrev pub IsPartly : Form → List ℕ → List ℕ → Option (List ℕ) → Type 0
+IsPartly asked taken written left = IsFront written (transcript_of asked taken) × (IsFront written (so_far_of asked taken) ⊎ IsAtEnd left)
+
+-- what was taken and written, and what is left, where a call of this form ended so
+abbrev pub Holds : Form → Status → List ℕ → List ℕ → Option (List ℕ) → Type 0
+Holds asked status.Done taken written left = (written ≡ transcript_of asked taken) × IsAtEnd left × (length taken < SCRIPT_LIMIT)
+Holds asked status.Words taken written left = ⊥
+Holds asked status.ReadFault taken written left = (written ≡ so_far_of asked taken) × (length taken < SCRIPT_LIMIT)
+Holds asked status.WriteFault taken written left = IsPartly asked taken written left
+Holds asked status.Memory taken written left = IsPartly asked taken written left
+Holds asked status.ScriptLimit taken written left = (written ≡ so_far_of asked taken) × (length taken ≡ SCRIPT_LIMIT)
+
+-- the same for words of a form, and for words of none
+abbrev pub HoldsFor : Option Form → Status → List ℕ → List ℕ → Option (List ℕ) → Type 0
+HoldsFor None ended taken written left = (ended ≡ status.Words) × (taken ≡ []) × (written ≡ [])
+HoldsFor (Some asked) ended taken written left = Holds asked ended taken written left
+
+-- What a call took and wrote. The bytes are those that the source and the sink tell, and those that were left of
+-- the source; where one of them tells nothing, nothing is said of it.
+pub record Met (asked : Option Form) (ended : Status) (taken_before taken_after left_before left_after written_before written_after : Option (List ℕ)) : Type 0 where
+  pub taken : List ℕ
+  pub written : List ℕ
+  pub takes : Grows taken_before taken_after taken
+  pub leaves : Consumes left_before left_after taken
+  pub writes : Grows written_before written_after written
+  pub limit : length taken ≤ SCRIPT_LIMIT
+  pub holds : HoldsFor asked ended taken written left_after
+
+-- Where the bytes left before the call are known and fewer than a script may have, all of the answer to them is
+-- written, or memory was wanting.
+abbrev pub Completes : Option Form → Status → Option (List ℕ) → Option (List ℕ) → Option (List ℕ) → Type 0
+Completes None ended left written_before written_after = ⊤
+Completes (Some asked) ended left written_before written_after =
+    (bytes : List ℕ) → left ≡ Some bytes → length bytes < SCRIPT_LIMIT
+    → (ended ≡ status.Memory) ⊎ ((ended ≡ status.Done) × Grows written_before written_after (transcript_of asked bytes))

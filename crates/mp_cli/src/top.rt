@@ -1,0 +1,82 @@
+ghost use Rattle.std.specs.Prelude.{◌≡◌, ◌≤◌, ◌↔◌, IsNone, Some, map, string_bytes};
+ghost use Rattle.mp_edge.specs.Causes.{Rose, counted};
+ghost use Rattle.mp_cli.specs.Forms.{form_of};
+ghost use Rattle.mp_cli.specs.Top.{Met, Completes, read_failed_at, write_failed_at};
+
+use crate::forms::{Form, form_of};
+use crate::listing::text_listing;
+use crate::reading::{Ending, read_all};
+use crate::status::Status;
+use mp_base::end_last_line;
+use mp_edge::{Sink, Source, write_all};
+use std::alloc::Global;
+
+// Writes the listing of the text that the source gives.
+fn list<S: Source, K: Sink>(alloc: Global, source: &mut S, sink: &mut K) -> Status
+    ensures met { Met (Some Form.List) result (S.taken source.old) (S.taken source.new) (S.left source.old) (S.left source.new) (K.written sink.old) (K.written sink.new) }
+
+    ensures read_fault { result ≡ Status.ReadFault → Rose (S.faults source.old) (S.faults source.new) }
+    ensures write_fault { result ≡ Status.WriteFault → Rose (K.faults sink.old) (K.faults sink.new) }
+    ensures failed_reads { S.failures source.new ≡ counted (read_failed_at result) (S.failures source.old) }
+    ensures failed_writes { K.failures sink.new ≡ counted (write_failed_at result) (K.failures sink.old) }
+
+    ensures source_later { S.faults source.old ≤ S.faults source.new }
+    ensures sink_later { K.faults sink.old ≤ K.faults sink.new }
+    ensures source_quiet { S.quiet source.old → S.quiet source.new × (S.faults source.new ≡ S.faults source.old) }
+    ensures sink_quiet { K.quiet sink.old → K.quiet sink.new × (K.faults sink.new ≡ K.faults sink.old) }
+{
+    let mut text = Vec::new(alloc);
+    match read_all(source, &mut text) {
+        Ending::Fault => return Status::ReadFault,
+        Ending::Memory => return Status::Memory,
+        Ending::Limit => return Status::ScriptLimit,
+        Ending::End => {}
+    }
+    match end_last_line(&mut text) {
+        Ok(()) => {}
+        Err(_) => return Status::Memory,
+    }
+    let Ok(bytes) = text_listing(alloc, text.as_slice()) else {
+        return Status::Memory;
+    };
+    match write_all(sink, bytes.get()) {
+        Ok(()) => {}
+        Err(_) => return Status::WriteFault,
+    }
+    Status::Done
+}
+
+/// Does what the words ask for, over a source and a sink, and waits for nobody.
+///
+/// `words` are those after the program's name. It takes the form `list`, which reads a text to its end and writes
+/// its listing. Other words are of no form: then nothing is read or written.
+pub fn run_plain<S: Source, K: Sink>(
+    alloc: Global,
+    words: &[String],
+    source: &mut S,
+    sink: &mut K,
+) -> Status
+    // What was taken and what was written, form by form and status by status.
+    ensures met { Met (form_of (map string_bytes words.now)) result (S.taken source.old) (S.taken source.new) (S.left source.old) (S.left source.new) (K.written sink.old) (K.written sink.new) }
+    ensures complete { ¬ Rose (S.faults source.old) (S.faults source.new) → ¬ Rose (K.faults sink.old) (K.faults sink.new)
+        → Completes (form_of (map string_bytes words.now)) result (S.left source.old) (K.written sink.old) (K.written sink.new) }
+
+    // When a status comes.
+    ensures words { result ≡ Status.Words ↔ IsNone (form_of (map string_bytes words.now)) }
+    ensures untouched { result ≡ Status.Words → (source.new ≡ source.old) × (sink.new ≡ sink.old) }
+    ensures read_fault { result ≡ Status.ReadFault → Rose (S.faults source.old) (S.faults source.new) }
+    ensures write_fault { result ≡ Status.WriteFault → Rose (K.faults sink.old) (K.faults sink.new) }
+    ensures failed_reads { S.failures source.new ≡ counted (read_failed_at result) (S.failures source.old) }
+    ensures failed_writes { K.failures sink.new ≡ counted (write_failed_at result) (K.failures sink.old) }
+
+    // What stays of the source and the sink.
+    ensures source_later { S.faults source.old ≤ S.faults source.new }
+    ensures sink_later { K.faults sink.old ≤ K.faults sink.new }
+    ensures source_quiet { S.quiet source.old → S.quiet source.new × (S.faults source.new ≡ S.faults source.old) }
+    ensures sink_quiet { K.quiet sink.old → K.quiet sink.new × (K.faults sink.new ≡ K.faults sink.old) }
+{
+    match form_of(words) {
+        None => return Status::Words,
+        Some(Form::List) => return list(alloc, source, sink),
+    }
+}

@@ -1,0 +1,11 @@
+pub mod SymbolLemmas
+pub mod WordLemmas
+pub mod Longest
+pub mod Places
+pub mod NumberLemmas
+pub mod StringLemmas
+pub mod ItemLemmas
+pub mod SplitLemmas
+pub mod LexedLemmas
+pub mod OrderLemmas
+pub mod TwoBytes

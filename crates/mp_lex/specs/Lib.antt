@@ -1,0 +1,9 @@
+pub mod Symbols
+pub mod Words
+pub mod Items
+pub mod Split
+pub mod Causes
+pub mod Meaning
+pub mod Lexed
+pub mod Order
+pub mod Lengths

@@ -1,0 +1,26 @@
+//! Tokens and lexical errors (ISO 7185, 6.1).
+//!
+//! The crate splits the bytes of a text into items, each the longest at its place: separators, tokens and lexical
+//! errors. It promises that a text has exactly one such split, that `lex` gives exactly its tokens and its errors, each
+//! list in the order of the text, and that two bytes after an item's last byte decide where it ends. It never parses,
+//! and never fails but for want of memory. It stands on `mp_ast` for the types and on `mp_base`.
+#![tactic(auto)]
+
+mod cause;
+mod comments;
+mod items;
+mod laws;
+mod lexer;
+mod marks;
+mod meaning;
+mod numbers;
+mod strings;
+mod symbols;
+#[cfg(test)]
+mod tests;
+mod words;
+
+pub use cause::Cause;
+pub use laws::{one_split, two_bytes_decide, words_are_found};
+pub use lexer::lex;
+pub use mp_ast::{LexError, LexErrors, Lexed, Symbol, Token, TokenKind, Tokens, WordSymbol};

@@ -1,0 +1,72 @@
+use super::*;
+use mp_base::SCRIPT_LIMIT;
+use std::alloc::Global;
+use std::fmt::Write;
+use std::test::Fail;
+
+// The spelling, value or name of a token.
+fn write_kind(out: &mut String, kind: &TokenKind) -> Result<(), Fail> {
+    match kind {
+        TokenKind::Id(name) => write!(out, "{}", str::from_utf8(name.get())?)?,
+        TokenKind::Number(value) => write!(out, "{value}")?,
+        TokenKind::Text(bytes) => write!(out, "'{}'", str::from_utf8(bytes.get())?)?,
+        TokenKind::Word(word) => write!(out, "<{}>", word.spelling())?,
+        TokenKind::Symbol(symbol) => write!(out, "{symbol:?}")?,
+    }
+    Ok(())
+}
+
+// The tokens of a text and then its errors, each as `what@start+length`.
+fn listed(alloc: Global, text: &[u8]) -> Result<String, Fail> {
+    let mut out = String::new(alloc);
+    if text.len() > SCRIPT_LIMIT {
+        return Ok(out);
+    }
+    let lexed = lex(alloc, text)?;
+    for token in lexed.tokens.get() {
+        write_kind(&mut out, &token.kind)?;
+        let start = token.start;
+        let len = token.len;
+        write!(out, "@{start}+{len} ")?;
+    }
+    for error in lexed.errors.get() {
+        let code = error.code;
+        let start = error.start;
+        let len = error.len;
+        write!(out, "{code}@{start}+{len} ")?;
+    }
+    Ok(out)
+}
+
+#[test]
+fn each_class_of_tokens_is_read(rt: HostRuntime) -> Result<(), Fail> {
+    let text = b"PROGRAM P1;{c}12 'it''s' <=(*{*)@(..)\t2147483647";
+    let expected =
+        "<program>@0+7 p1@8+2 Semicolon@10+1 12@14+2 'it's'@17+7 LessEqual@25+2 Caret@32+1 \
+        LeftBracket@33+2 RightBracket@35+2 2147483647@38+10 ";
+    assert_eq!(rt; listed(rt.alloc(), text)?.as_str(), expected);
+    Ok(())
+}
+
+#[test]
+fn each_error_is_read(rt: HostRuntime) -> Result<(), Fail> {
+    let text = b"?''1x 1.5 9223372036854775808/'a\n{";
+    let expected = "101@0+1 104@1+2 105@3+2 106@6+3 107@10+19 108@29+1 103@30+2 102@33+1 ";
+    assert_eq!(rt; listed(rt.alloc(), text)?.as_str(), expected);
+    Ok(())
+}
+
+#[test]
+fn an_item_ends_where_no_longer_one_stands(rt: HostRuntime) -> Result<(), Fail> {
+    let alloc = rt.alloc();
+    assert_eq!(rt; listed(alloc, b"1.5x")?.as_str(), "x@3+1 106@0+3 ");
+    assert_eq!(rt; listed(alloc, b"1e5x")?.as_str(), "x@3+1 106@0+3 ");
+    assert_eq!(rt; listed(alloc, b"1ex")?.as_str(), "105@0+3 ");
+    assert_eq!(rt; listed(alloc, b"1..2")?.as_str(), "1@0+1 DotDot@1+2 2@3+1 ");
+    assert_eq!(rt; listed(alloc, b"1.)")?.as_str(), "1@0+1 RightBracket@1+2 ");
+    assert_eq!(rt; listed(alloc, b"(*)")?.as_str(), "102@0+3 ");
+    assert_eq!(rt; listed(alloc, b"(..")?.as_str(), "LeftBracket@0+2 Dot@2+1 ");
+    assert_eq!(rt; listed(alloc, b"'''")?.as_str(), "103@0+3 ");
+    assert_eq!(rt; listed(alloc, b"")?.as_str(), "");
+    Ok(())
+}
