@@ -1,0 +1,9 @@
+pub mod Pieces
+pub mod WordLemmas
+pub mod WordLaws
+pub mod BehindLaws
+pub mod KeywordLemmas
+pub mod AccessLaws
+pub mod FormLemmas
+pub mod NumberLemmas
+pub mod WantsLemmas

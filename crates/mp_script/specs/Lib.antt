@@ -1,0 +1,5 @@
+pub mod Keywords
+pub mod Words
+pub mod Numbers
+pub mod Access
+pub mod Meaning

@@ -1,0 +1,350 @@
+use crate::{Command, Lines, Verb, command};
+use mp_base::TextLines;
+use std::alloc::Global;
+use std::fmt::Write;
+use std::process::Abort;
+use std::test::Fail;
+
+// The words of a verb whose number may be left out.
+fn write_optional(out: &mut String, word: &str, number: Option<u32>) -> Result<(), Fail> {
+    match number {
+        Some(number) => write!(out, "{word} {number}")?,
+        None => write!(out, "{word}")?,
+    }
+    Ok(())
+}
+
+fn write_verb(out: &mut String, verb: &Verb) -> Result<(), Fail> {
+    match verb {
+        Verb::Nothing => write!(out, "nothing")?,
+        Verb::Insert { after, count } => write!(out, "insert {after} {count}")?,
+        Verb::Delete { first, last } => write!(out, "delete {first} {last}")?,
+        Verb::Replace { first, last, count } => write!(out, "replace {first} {last} {count}")?,
+        Verb::Sub {
+            line,
+            column,
+            count,
+        } => write!(out, "sub {line} {column} {count}")?,
+        Verb::Back { version } => write!(out, "back {version}")?,
+        Verb::Text { version } => write_optional(out, "text", *version)?,
+        Verb::List { version } => write_optional(out, "list", *version)?,
+        Verb::Ready => write!(out, "ready")?,
+        Verb::Input { count } => write!(out, "input {count}")?,
+        Verb::Break { line } => write!(out, "break {line}")?,
+        Verb::Clear { line } => write!(out, "clear {line}")?,
+        Verb::Run { steps } => write_optional(out, "run", *steps)?,
+        Verb::Go { steps } => write_optional(out, "go", *steps)?,
+        Verb::Step { steps } => write_optional(out, "step", *steps)?,
+        Verb::Show { access } => write!(out, "show <{}>", str::from_utf8(access.get())?)?,
+        Verb::Chain => write!(out, "where")?,
+        Verb::Kill => write!(out, "kill")?,
+        Verb::Quit => write!(out, "quit")?,
+    }
+    Ok(())
+}
+
+// The verb of a command, the number of lines that it wants and the lines that it has.
+fn write_command(out: &mut String, command: &Command) -> Result<(), Fail> {
+    write_verb(out, &command.verb)?;
+    if command.wants != 0 {
+        write!(out, ", wants {}", command.wants)?;
+    }
+    for line in command.lines.get() {
+        write!(out, ", has {}", str::from_utf8(line.get())?)?;
+    }
+    Ok(())
+}
+
+// The commands of these lines, each in brackets.
+fn commands_of(alloc: Global, lines: &TextLines) -> Result<String, Fail> {
+    let mut out = String::new(alloc);
+    for line in lines.get() {
+        write!(out, "[")?;
+        match command(alloc, line) {
+            Ok(command) => write_command(&mut out, &command)?,
+            Err(why) => write!(out, "{why}")?,
+        }
+        write!(out, "]")?;
+    }
+    Ok(out)
+}
+
+// The command of one line.
+fn read(alloc: Global, line: &str) -> Result<String, Fail> {
+    let mut lines = Lines::new(alloc);
+    lines.feed(line.as_bytes())?;
+    commands_of(alloc, &lines.feed(b"\n")?)
+}
+
+fn are_read(rt: &impl Abort, alloc: Global, rows: &[(&str, &str)]) -> Result<(), Fail> {
+    for (line, want) in rows {
+        assert_eq!(rt; read(alloc, line)?.as_str(), *want);
+    }
+    Ok(())
+}
+
+#[test]
+fn each_form_of_a_command_is_read(rt: HostRuntime) -> Result<(), Fail> {
+    are_read(
+        &rt,
+        rt.alloc(),
+        &[
+            ("insert 0 3", "[insert 0 3, wants 3]"),
+            ("insert 0 0", "[insert 0 0]"),
+            ("delete 1 2", "[delete 1 2]"),
+            ("replace 1 2 4", "[replace 1 2 4, wants 4]"),
+            ("sub 1 2 3", "[sub 1 2 3, wants 1]"),
+            ("back 7", "[back 7]"),
+            ("text", "[text]"),
+            ("text 2", "[text 2]"),
+            ("list", "[list]"),
+            ("list 3", "[list 3]"),
+            ("ready", "[ready]"),
+            ("input 5", "[input 5, wants 5]"),
+            ("break 9", "[break 9]"),
+            ("clear 9", "[clear 9]"),
+            ("run", "[run]"),
+            ("run 10", "[run 10]"),
+            ("go", "[go]"),
+            ("go 10", "[go 10]"),
+            ("step", "[step]"),
+            ("step 10", "[step 10]"),
+            ("show x", "[show <x>]"),
+            ("where", "[where]"),
+            ("kill", "[kill]"),
+            ("quit", "[quit]"),
+        ],
+    )
+}
+
+#[test]
+fn spaces_tabs_and_one_byte_13_are_no_words(rt: HostRuntime) -> Result<(), Fail> {
+    are_read(
+        &rt,
+        rt.alloc(),
+        &[
+            ("", "[nothing]"),
+            ("\r", "[nothing]"),
+            (" \t ", "[nothing]"),
+            (" \t\r", "[nothing]"),
+            ("\tinsert \t 1\t2 ", "[insert 1 2, wants 2]"),
+            ("quit\r", "[quit]"),
+            ("quit \r", "[quit]"),
+            ("quit\r\r", "[bad command]"),
+            ("quit\r ", "[bad command]"),
+            ("\rquit", "[bad command]"),
+            ("\u{c}quit", "[bad command]"),
+            ("list\u{c}", "[bad command]"),
+        ],
+    )
+}
+
+#[test]
+fn numbers_have_one_to_nine_digits(rt: HostRuntime) -> Result<(), Fail> {
+    are_read(
+        &rt,
+        rt.alloc(),
+        &[
+            ("back 007", "[back 7]"),
+            ("back 000000000", "[back 0]"),
+            ("input 999999999", "[input 999999999, wants 999999999]"),
+            ("back 0000000001", "[bad command]"),
+            ("back 1000000000", "[bad command]"),
+            ("back +1", "[bad command]"),
+            ("back -1", "[bad command]"),
+            ("back 1x", "[bad command]"),
+            ("back 0x1", "[bad command]"),
+            ("back /", "[bad command]"),
+            ("back :", "[bad command]"),
+        ],
+    )
+}
+
+#[test]
+fn what_has_no_form_is_bad(rt: HostRuntime) -> Result<(), Fail> {
+    are_read(
+        &rt,
+        rt.alloc(),
+        &[
+            ("frob", "[bad command]"),
+            ("Quit", "[bad command]"),
+            ("QUIT", "[bad command]"),
+            ("quitt", "[bad command]"),
+            ("qui", "[bad command]"),
+            ("quit now", "[bad command]"),
+            ("quit 1", "[bad command]"),
+            ("chain", "[bad command]"),
+            ("insert 1", "[bad command]"),
+            ("insert 1 2 3", "[bad command]"),
+            ("insert x 5", "[bad command]"),
+            ("insert 1 x", "[bad command]"),
+            ("insert1 2", "[bad command]"),
+            ("delete 1", "[bad command]"),
+            ("replace 1 2", "[bad command]"),
+            ("replace 1 2 3 4", "[bad command]"),
+            ("sub 1 2", "[bad command]"),
+            ("sub 1 2 x", "[bad command]"),
+            ("back", "[bad command]"),
+            ("back 1 2", "[bad command]"),
+            ("text x", "[bad command]"),
+            ("list 1 2", "[bad command]"),
+            ("ready 1", "[bad command]"),
+            ("input", "[bad command]"),
+            ("break", "[bad command]"),
+            ("clear 1 2", "[bad command]"),
+            ("run 1 2", "[bad command]"),
+            ("go x", "[bad command]"),
+            ("step -1", "[bad command]"),
+            ("where 1", "[bad command]"),
+            ("kill 1", "[bad command]"),
+            ("1 insert", "[bad command]"),
+        ],
+    )
+}
+
+#[test]
+fn accesses_are_kept_as_they_stand(rt: HostRuntime) -> Result<(), Fail> {
+    are_read(
+        &rt,
+        rt.alloc(),
+        &[
+            (
+                " show \t A [ 1 , -2 ] . b ^\t ",
+                "[show <A [ 1 , -2 ] . b ^>]",
+            ),
+            (
+                "show a[1][2,+3,c,'x','''']",
+                "[show <a[1][2,+3,c,'x','''']>]",
+            ),
+            ("show a(.1.)@", "[show <a(.1.)@>]"),
+            (
+                "show {the list} p^.next^{end}",
+                "[show <{the list} p^.next^{end}>]",
+            ),
+            ("show a[2147483647]\r", "[show <a[2147483647]>]"),
+        ],
+    )
+}
+
+#[test]
+fn what_is_no_access_is_bad(rt: HostRuntime) -> Result<(), Fail> {
+    are_read(
+        &rt,
+        rt.alloc(),
+        &[
+            ("show", "[bad command]"),
+            ("show ", "[bad command]"),
+            ("show 1", "[bad command]"),
+            ("show{} x", "[bad command]"),
+            ("show x y", "[bad command]"),
+            ("show begin", "[bad command]"),
+            ("show x.", "[bad command]"),
+            ("show x.end", "[bad command]"),
+            ("show x.1", "[bad command]"),
+            ("show .x", "[bad command]"),
+            ("show x[]", "[bad command]"),
+            ("show x[1", "[bad command]"),
+            ("show x[1,]", "[bad command]"),
+            ("show x[1 2]", "[bad command]"),
+            ("show x]", "[bad command]"),
+            ("show x[-c]", "[bad command]"),
+            ("show x[- -1]", "[bad command]"),
+            ("show x['ab']", "[bad command]"),
+            ("show x[-'a']", "[bad command]"),
+            ("show x[a.b]", "[bad command]"),
+            ("show x[1..2]", "[bad command]"),
+            ("show x[2147483648]", "[bad command]"),
+            ("show x {", "[bad command]"),
+            ("show x;", "[bad command]"),
+            ("show x?", "[bad command]"),
+        ],
+    )
+}
+
+// `quit` in a line of this length, filled up with spaces, and what stands at its end.
+fn long_line(alloc: Global, word: &str, len: usize, end: &str) -> Result<String, Fail> {
+    let mut line = String::from_str(alloc, word)?;
+    for _ in word.len()..len {
+        line.push(' ')?;
+    }
+    line.push_str(end)?;
+    Ok(line)
+}
+
+#[test]
+fn a_line_has_at_most_255_bytes(rt: HostRuntime) -> Result<(), Fail> {
+    let alloc = rt.alloc();
+    for (word, len, end, want) in [
+        ("quit", 255, "", "[quit]"),
+        ("quit", 256, "", "[bad command]"),
+        ("quit", 257, "", "[bad command]"),
+        ("quit", 255, "\r", "[quit]"),
+        ("quit", 256, "\r", "[bad command]"),
+        ("", 255, "", "[nothing]"),
+        ("", 256, "", "[bad command]"),
+        ("", 255, "\r", "[nothing]"),
+    ] {
+        assert_eq!(rt;
+            read(alloc, &long_line(alloc, word, len, end)?)?.as_str(),
+            want
+        );
+    }
+    Ok(())
+}
+
+#[test]
+fn a_command_takes_lines_with_their_byte_13(rt: HostRuntime) -> Result<(), Fail> {
+    let alloc = rt.alloc();
+    let mut out = String::new(alloc);
+    let mut lines = Lines::new(alloc);
+    let mut open = None;
+    for line in lines.feed(b"insert 0 2\na\r\n\n")?.into_vec() {
+        match open.take() {
+            None => open = command(alloc, &line).ok(),
+            Some(command) => {
+                let mut command: Command = command;
+                if (command.lines.get().len() as u64) < u64::from(command.wants) {
+                    command.take(line)?;
+                }
+                open = Some(command);
+            }
+        }
+    }
+    if let Some(command) = open {
+        write_command(&mut out, &command)?;
+    }
+    assert_eq!(rt; out.as_str(), "insert 0 2, wants 2, has a\r, has ");
+    Ok(())
+}
+
+// The lines that a script's pieces give, each behind the number of the piece that ends it, and the last line.
+fn lines_of_pieces(alloc: Global, pieces: &[&str]) -> Result<String, Fail> {
+    let mut out = String::new(alloc);
+    let mut lines = Lines::new(alloc);
+    for (number, piece) in pieces.iter().enumerate() {
+        for line in lines.feed(piece.as_bytes())?.get() {
+            write!(out, "{number}:{} ", str::from_utf8(line.get())?)?;
+        }
+    }
+    match lines.finish() {
+        Some(line) => write!(out, "last:{}", str::from_utf8(line.get())?)?,
+        None => write!(out, "none")?,
+    }
+    Ok(out)
+}
+
+#[test]
+fn lines_come_in_whatever_pieces(rt: HostRuntime) -> Result<(), Fail> {
+    let alloc = rt.alloc();
+    for (pieces, want) in [
+        (["", "", ""], "none"),
+        (["ab\n", "c\n", ""], "0:ab 1:c none"),
+        (["ab", "c\nd", "e"], "1:abc last:de"),
+        (["a\n\nb\n", "\n", "c"], "0:a 0: 0:b 1: last:c"),
+        (["a", "", "\n"], "2:a none"),
+        (["ab\r", "\ncd\r\n", "\r"], "1:ab\r 1:cd\r last:\r"),
+    ] {
+        assert_eq!(rt; lines_of_pieces(alloc, &pieces)?.as_str(), want);
+    }
+    Ok(())
+}

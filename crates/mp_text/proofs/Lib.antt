@@ -1,0 +1,5 @@
+pub mod SizeLemmas
+pub mod LineLemmas
+pub mod PlaceLemmas
+pub mod RefusalLemmas
+pub mod VersionLemmas
