@@ -1,4 +1,3 @@
-pub mod DepartureLemmas
-pub mod ListingLemmas
-pub mod TextLemmas
 pub mod TopLemmas
+pub mod TalkLemmas
+pub mod ScriptLemmas

@@ -1,5 +1,4 @@
 pub mod Forms
-pub mod Departure
-pub mod Listing
 pub mod Reading
+pub mod Talk
 pub mod Top

@@ -4,7 +4,8 @@ use Rattle.std.specs.Io.KnownBytes.{Consumes, IsAtEnd}
 use Rattle.mp_base.specs.declared.limits.TheConstants.{SCRIPT_LIMIT}
 use Rattle.mp_base.specs.Text.{lines_of}
 use Rattle.mp_edge.specs.Told.{Grows, IsFront}
-use Rattle.mp_cli.specs.Listing.{text_listing}
+use Rattle.mp_session.specs.Transcript.{so_far, transcript, Quits}
+use Rattle.mp_session.specs.Replies.{list_transcript}
 use Rattle.mp_cli.specs.declared.forms.Form.{Form}
 use Rattle.mp_cli.specs.declared.forms.Form.TheVariants as form
 use Rattle.mp_cli.specs.declared.status.Status.{Status}
@@ -38,11 +39,18 @@ write_failed_at status.ScriptLimit = false
 
 -- the answer to all the bytes that are read
 abbrev pub transcript_of : Form → List ℕ → List ℕ
-transcript_of form.List taken = text_listing (lines_of taken)
+transcript_of form.List taken = list_transcript (lines_of taken)
+transcript_of form.Serial taken = transcript taken
 
 -- what is answered of these bytes before the end is known
 abbrev pub so_far_of : Form → List ℕ → List ℕ
 so_far_of form.List taken = []
+so_far_of form.Serial taken = so_far taken
+
+-- a whole `quit` line of the script stands in these bytes
+abbrev pub QuitsIn : Form → List ℕ → Type 0
+QuitsIn form.List taken = ⊥
+QuitsIn form.Serial taken = Quits taken
 
 -- What was written is the front of the answer, and of the answer so far where something is left.
 abbrev pub IsPartly : Form → List ℕ → List ℕ → Option (List ℕ) → Type 0
@@ -50,12 +58,12 @@ IsPartly asked taken written left = IsFront written (transcript_of asked taken) 
 
 -- what was taken and written, and what is left, where a call of this form ended so
 abbrev pub Holds : Form → Status → List ℕ → List ℕ → Option (List ℕ) → Type 0
-Holds asked status.Done taken written left = (written ≡ transcript_of asked taken) × IsAtEnd left × (length taken < SCRIPT_LIMIT)
+Holds asked status.Done taken written left = (written ≡ transcript_of asked taken) × ((IsAtEnd left × (length taken < SCRIPT_LIMIT)) ⊎ QuitsIn asked taken)
 Holds asked status.Words taken written left = ⊥
-Holds asked status.ReadFault taken written left = (written ≡ so_far_of asked taken) × (length taken < SCRIPT_LIMIT)
+Holds asked status.ReadFault taken written left = (written ≡ so_far_of asked taken) × (¬ QuitsIn asked taken) × (length taken < SCRIPT_LIMIT)
 Holds asked status.WriteFault taken written left = IsPartly asked taken written left
 Holds asked status.Memory taken written left = IsPartly asked taken written left
-Holds asked status.ScriptLimit taken written left = (written ≡ so_far_of asked taken) × (length taken ≡ SCRIPT_LIMIT)
+Holds asked status.ScriptLimit taken written left = (written ≡ so_far_of asked taken) × (¬ QuitsIn asked taken) × (length taken ≡ SCRIPT_LIMIT)
 
 -- the same for words of a form, and for words of none
 abbrev pub HoldsFor : Option Form → Status → List ℕ → List ℕ → Option (List ℕ) → Type 0

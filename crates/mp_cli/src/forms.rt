@@ -6,6 +6,8 @@ ghost use Rattle.mp_cli.specs.Forms.{form_of};
 pub enum Form {
     /// `list`: the listing of the text that is read.
     List,
+    /// `serial`: the replies to the script that is read.
+    Serial,
 }
 
 /// The form of these words, if they have one.
@@ -17,6 +19,9 @@ pub(crate) fn form_of(words: &[String]) -> Option<Form>
     };
     if word.as_str() == "list" {
         return Some(Form::List);
+    }
+    if word.as_str() == "serial" {
+        return Some(Form::Serial);
     }
     None
 }

@@ -4,12 +4,11 @@
 //! What the program promises is the contract of `run_plain`. The crate stands on all the others.
 #![tactic(auto)]
 
-mod departure;
 mod forms;
-mod listing;
 mod reading;
+mod scripts;
 mod status;
-mod texts;
+mod talk;
 mod top;
 
 pub use forms::Form;

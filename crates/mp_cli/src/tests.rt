@@ -1,12 +1,13 @@
+mod scripts;
 mod texts;
 
 use crate::{Status, run_plain};
 use mp_base::{Bytes, Memory};
-use mp_edge::{MemSink, MemSource};
+use mp_edge::{Got, MemSink, MemSource, Source};
 use std::alloc::Global;
 use std::process::Abort;
 use std::test::Fail;
-use texts::{Row, TABLES};
+use texts::Row;
 
 // How a call with these words over these pieces ends, and what it writes. The reads and writes of these numbers fail.
 fn called(
@@ -46,7 +47,7 @@ fn keeps_the_listings(rt: &impl Abort, alloc: Global, rows: &[Row]) -> Result<()
 #[test]
 fn small_texts_have_their_listings(rt: HostRuntime) -> Result<(), Fail> {
     let alloc = rt.alloc();
-    for table in TABLES {
+    for table in texts::TABLES {
         keeps_the_listings(&rt, alloc, table)?;
     }
     Ok(())
@@ -87,14 +88,24 @@ fn a_text_of_262144_bytes_fits(rt: HostRuntime) -> Result<(), Fail> {
     assert_eq!(rt; written.get(), b"accepted\n".as_slice());
     text.push(b' ')?;
     let (_, written) = listed(alloc, text.as_slice())?;
-    assert_eq!(rt; written.get(), b"not built at 1:1\n".as_slice());
+    assert_eq!(rt;
+        written.get(),
+        b"? 3 text too long, 262145 bytes\n".as_slice()
+    );
     // The errors of a text that fits are listed, and those of a longer one are not.
     let mut text = full_text(alloc, b"?")?;
     let (_, written) = listed(alloc, text.as_slice())?;
     assert_eq!(rt; written.get(), b"1:1 101 bad character\n".as_slice());
     text.push(b'\n')?;
     let (_, written) = listed(alloc, text.as_slice())?;
-    assert_eq!(rt; written.get(), b"not built at 1:1\n".as_slice());
+    assert_eq!(rt;
+        written.get(),
+        b"? 3 text too long, 262145 bytes\n".as_slice()
+    );
+    // A line that is too long is told first.
+    add_line(&mut text, b"", 4097)?;
+    let (_, written) = listed(alloc, text.as_slice())?;
+    assert_eq!(rt; written.get(), b"? 4 line 66 too long\n".as_slice());
     Ok(())
 }
 
@@ -103,9 +114,9 @@ fn a_line_of_4096_bytes_fits(rt: HostRuntime) -> Result<(), Fail> {
     let alloc = rt.alloc();
     for (first, len, listing) in [
         (EMPTY_PROGRAM, 4096, "accepted\n"),
-        (EMPTY_PROGRAM, 4097, "not built at 1:1\n"),
+        (EMPTY_PROGRAM, 4097, "? 4 line 1 too long\n"),
         (b"?".as_slice(), 4096, "1:1 101 bad character\n"),
-        (b"?".as_slice(), 4097, "not built at 1:1\n"),
+        (b"?".as_slice(), 4097, "? 4 line 1 too long\n"),
     ] {
         let mut text = Vec::new(alloc);
         add_line(&mut text, first, len)?;
@@ -122,7 +133,7 @@ fn a_line_of_4096_bytes_fits(rt: HostRuntime) -> Result<(), Fail> {
         let later = if len == 4096 {
             "not built at 3:1\n"
         } else {
-            "not built at 1:1\n"
+            "? 4 line 2 too long\n"
         };
         assert_eq!(rt; written.get(), later.as_bytes());
     }
@@ -132,7 +143,15 @@ fn a_line_of_4096_bytes_fits(rt: HostRuntime) -> Result<(), Fail> {
 #[test]
 fn words_of_no_form_read_and_write_nothing(rt: HostRuntime) -> Result<(), Fail> {
     let alloc = rt.alloc();
-    for words in ["", "list x", "session 17", "List", "lis", "--help"] {
+    for words in [
+        "",
+        "list x",
+        "serial list",
+        "session 17",
+        "List",
+        "serials",
+        "--help",
+    ] {
         let mut pieces = Vec::new(alloc);
         pieces.push(Bytes::of(alloc, EMPTY_PROGRAM)?)?;
         let (status, written) = called(alloc, words, pieces, &[1], &[1])?;
@@ -170,7 +189,7 @@ fn a_failed_read_or_write_ends_the_call(rt: HostRuntime) -> Result<(), Fail> {
 fn a_text_of_67108864_bytes_is_past_the_limit(rt: HostRuntime) -> Result<(), Fail> {
     let alloc = rt.alloc();
     for (len, status, listing) in [
-        (67_108_863, Status::Done, "not built at 1:1\n"),
+        (67_108_863, Status::Done, "? 4 line 1 too long\n"),
         (67_108_864, Status::ScriptLimit, ""),
     ] {
         let spaces = vec![in alloc; b' '; len]?;
@@ -179,6 +198,227 @@ fn a_text_of_67108864_bytes_is_past_the_limit(rt: HostRuntime) -> Result<(), Fai
         let (ended, written) = called(alloc, "list", pieces, &[], &[])?;
         assert_eq!(rt; ended, status);
         assert_eq!(rt; written.get(), listing.as_bytes());
+    }
+    Ok(())
+}
+
+// What `serial` writes for a script.
+fn answered(alloc: Global, script: &[u8]) -> Result<(Status, Bytes), Fail> {
+    let mut pieces = Vec::new(alloc);
+    pieces.push(Bytes::of(alloc, script)?)?;
+    called(alloc, "serial", pieces, &[], &[])
+}
+
+fn keeps_the_transcripts(
+    rt: &impl Abort,
+    alloc: Global,
+    rows: &[scripts::Row],
+) -> Result<(), Fail> {
+    for (script, transcript) in rows {
+        let (status, written) = answered(alloc, script)?;
+        assert_eq!(rt; status, Status::Done);
+        assert_eq!(rt; written.get(), transcript.as_bytes(), "{script:?}");
+    }
+    Ok(())
+}
+
+#[test]
+fn commands_have_their_forms(rt: HostRuntime) -> Result<(), Fail> {
+    let alloc = rt.alloc();
+    keeps_the_transcripts(&rt, alloc, scripts::LINES)?;
+    keeps_the_transcripts(&rt, alloc, scripts::LENGTHS)?;
+    keeps_the_transcripts(&rt, alloc, scripts::NUMBERS)?;
+    Ok(())
+}
+
+#[test]
+fn edits_make_versions(rt: HostRuntime) -> Result<(), Fail> {
+    let alloc = rt.alloc();
+    keeps_the_transcripts(&rt, alloc, scripts::EDITS)?;
+    keeps_the_transcripts(&rt, alloc, scripts::VERSIONS)?;
+    keeps_the_transcripts(&rt, alloc, scripts::INPUTS)?;
+    Ok(())
+}
+
+#[test]
+fn bytes_of_a_line_are_substituted(rt: HostRuntime) -> Result<(), Fail> {
+    let alloc = rt.alloc();
+    keeps_the_transcripts(&rt, alloc, scripts::SUBSTITUTIONS)?;
+    Ok(())
+}
+
+#[test]
+fn versions_are_listed(rt: HostRuntime) -> Result<(), Fail> {
+    let alloc = rt.alloc();
+    keeps_the_transcripts(&rt, alloc, scripts::LISTINGS)?;
+    keeps_the_transcripts(&rt, alloc, scripts::LATER)?;
+    Ok(())
+}
+
+#[test]
+fn refusals_come_in_order(rt: HostRuntime) -> Result<(), Fail> {
+    let alloc = rt.alloc();
+    keeps_the_transcripts(&rt, alloc, scripts::REFUSALS)?;
+    keeps_the_transcripts(&rt, alloc, scripts::ENDS)?;
+    Ok(())
+}
+
+// Four lines, of which the last one is not ended: what is written after each is known before the next is read.
+const PIECES: [&str; 4] = [
+    "insert 0 1\n",
+    "program p; begin end.\nlis",
+    "t 2\nfrob\n",
+    "text 1",
+];
+
+const AFTER_TEXT: &str = "version 2\n";
+
+const AFTER_LIST: &str = "version 2\naccepted\n";
+
+const AFTER_FROB: &str = "version 2\naccepted\n? 20 bad command\n";
+
+const AFTER_ALL: &str = "version 2\naccepted\n? 20 bad command\nversion 1, 0 lines\n";
+
+#[test]
+fn a_failed_read_or_write_ends_a_script(rt: HostRuntime) -> Result<(), Fail> {
+    let alloc = rt.alloc();
+    // The fifth read finds the end, and there are four writes. `left` is the piece that the next read gives.
+    for (fail_reads, fail_writes, status, written, left) in [
+        ([1].as_slice(), [].as_slice(), Status::ReadFault, "", 0),
+        ([2].as_slice(), [].as_slice(), Status::ReadFault, "", 1),
+        (
+            [3].as_slice(),
+            [].as_slice(),
+            Status::ReadFault,
+            AFTER_TEXT,
+            2,
+        ),
+        (
+            [4].as_slice(),
+            [].as_slice(),
+            Status::ReadFault,
+            AFTER_FROB,
+            3,
+        ),
+        (
+            [5].as_slice(),
+            [].as_slice(),
+            Status::ReadFault,
+            AFTER_FROB,
+            4,
+        ),
+        ([].as_slice(), [].as_slice(), Status::Done, AFTER_ALL, 4),
+        ([].as_slice(), [1].as_slice(), Status::WriteFault, "", 2),
+        (
+            [].as_slice(),
+            [2].as_slice(),
+            Status::WriteFault,
+            AFTER_TEXT,
+            3,
+        ),
+        (
+            [].as_slice(),
+            [3].as_slice(),
+            Status::WriteFault,
+            AFTER_LIST,
+            3,
+        ),
+        (
+            [].as_slice(),
+            [4].as_slice(),
+            Status::WriteFault,
+            AFTER_FROB,
+            4,
+        ),
+        ([6].as_slice(), [5].as_slice(), Status::Done, AFTER_ALL, 4),
+    ] {
+        let mut pieces = Vec::new(alloc);
+        for piece in PIECES {
+            pieces.push(Bytes::of(alloc, piece.as_bytes())?)?;
+        }
+        let mut source = MemSource::new(alloc, pieces, Vec::from_slice(alloc, fail_reads)?)?;
+        let mut sink = MemSink::new(alloc, Vec::from_slice(alloc, fail_writes)?)?;
+        let mut words = Vec::new(alloc);
+        words.push(String::from_str(alloc, "serial")?)?;
+        let ended = run_plain(alloc, words.as_slice(), &mut source, &mut sink);
+        assert_eq!(rt; ended, status);
+        let bytes = Bytes::of(alloc, sink.bytes().ok_or(Memory)?)?;
+        assert_eq!(rt; bytes.get(), written.as_bytes());
+        // The call read no more than it answered.
+        let mut buffer = [0u8; 64];
+        match (source.read(&mut buffer), PIECES.get(left)) {
+            (Got::Bytes(count), Some(piece)) => {
+                assert_eq!(rt; &buffer[..count], piece.as_bytes());
+            }
+            (got, piece) => {
+                assert!(rt; got == Got::End || got == Got::Failed);
+                assert!(rt; piece.is_none() || got == Got::Failed);
+            }
+        }
+    }
+    Ok(())
+}
+
+// A script of 60 bytes.
+const SCRIPT: &[u8] = b"insert 0 1\nprogram p; begin end.\nlist 2\nback 1\ntext 1\nquit\nf";
+
+#[test]
+fn each_front_of_a_script_is_answered(rt: HostRuntime) -> Result<(), Fail> {
+    let alloc = rt.alloc();
+    // From so many bytes on, up to the next row's, the front has this transcript.
+    let rows = [
+        // `i` to `insert 0 `
+        (1, "? 20 bad command\n"),
+        // the line that it takes does not come
+        (10, "? 25 script ended\n"),
+        // `p`: a last line counts without its line end
+        (12, "version 2\n"),
+        // `l` to `lis`
+        (34, "version 2\n? 20 bad command\n"),
+        // `list` to `list 2`
+        (37, "version 2\naccepted\n"),
+        // `b` to `back `
+        (41, "version 2\naccepted\n? 20 bad command\n"),
+        (46, "version 2\naccepted\nversion 3\n"),
+        // `t` to `tex`
+        (48, "version 2\naccepted\nversion 3\n? 20 bad command\n"),
+        // `text`, of the current version
+        (51, "version 2\naccepted\nversion 3\nversion 3, 0 lines\n"),
+        // `text 1`
+        (53, "version 2\naccepted\nversion 3\nversion 1, 0 lines\n"),
+        // `q` to `qui`
+        (
+            55,
+            "version 2\naccepted\nversion 3\nversion 1, 0 lines\n? 20 bad command\n",
+        ),
+        // `quit`, and all that follows
+        (58, "version 2\naccepted\nversion 3\nversion 1, 0 lines\n"),
+        (61, ""),
+    ];
+    for i in 1..rows.len() {
+        for len in rows[i - 1].0..rows[i].0 {
+            let (status, written) = answered(alloc, &SCRIPT[..len])?;
+            assert_eq!(rt; status, Status::Done);
+            assert_eq!(rt; written.get(), rows[i - 1].1.as_bytes(), "{len}");
+        }
+    }
+    Ok(())
+}
+
+#[test]
+fn a_script_of_67108864_bytes_is_past_the_limit(rt: HostRuntime) -> Result<(), Fail> {
+    let alloc = rt.alloc();
+    for (len, status, transcript) in [
+        (67_108_863, Status::Done, "? 20 bad command\n"),
+        (67_108_864, Status::ScriptLimit, ""),
+        (67_108_865, Status::ScriptLimit, ""),
+    ] {
+        let spaces = vec![in alloc; b' '; len]?;
+        let mut pieces = Vec::new(alloc);
+        pieces.push(Bytes::from_vec(spaces))?;
+        let (ended, written) = called(alloc, "serial", pieces, &[], &[])?;
+        assert_eq!(rt; ended, status);
+        assert_eq!(rt; written.get(), transcript.as_bytes());
     }
     Ok(())
 }

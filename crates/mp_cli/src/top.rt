@@ -4,11 +4,12 @@ ghost use Rattle.mp_cli.specs.Forms.{form_of};
 ghost use Rattle.mp_cli.specs.Top.{Met, Completes, read_failed_at, write_failed_at};
 
 use crate::forms::{Form, form_of};
-use crate::listing::text_listing;
 use crate::reading::{Ending, read_all};
+use crate::scripts::serial;
 use crate::status::Status;
 use mp_base::end_last_line;
 use mp_edge::{Sink, Source, write_all};
+use mp_session::list_transcript;
 use std::alloc::Global;
 
 // Writes the listing of the text that the source gives.
@@ -36,7 +37,7 @@ fn list<S: Source, K: Sink>(alloc: Global, source: &mut S, sink: &mut K) -> Stat
         Ok(()) => {}
         Err(_) => return Status::Memory,
     }
-    let Ok(bytes) = text_listing(alloc, text.as_slice()) else {
+    let Ok(bytes) = list_transcript(alloc, text.as_slice()) else {
         return Status::Memory;
     };
     match write_all(sink, bytes.get()) {
@@ -48,8 +49,9 @@ fn list<S: Source, K: Sink>(alloc: Global, source: &mut S, sink: &mut K) -> Stat
 
 /// Does what the words ask for, over a source and a sink, and waits for nobody.
 ///
-/// `words` are those after the program's name. It takes the form `list`, which reads a text to its end and writes
-/// its listing. Other words are of no form: then nothing is read or written.
+/// `words` are those after the program's name. The form `list` reads a text to its end and writes its listing; the
+/// form `serial` reads a script and writes the reply to each command as soon as its last line is read, up to the first
+/// `quit`. Other words are of no form: then nothing is read or written.
 pub fn run_plain<S: Source, K: Sink>(
     alloc: Global,
     words: &[String],
@@ -78,5 +80,6 @@ pub fn run_plain<S: Source, K: Sink>(
     match form_of(words) {
         None => return Status::Words,
         Some(Form::List) => return list(alloc, source, sink),
+        Some(Form::Serial) => return serial(alloc, source, sink),
     }
 }

@@ -8,19 +8,19 @@
 //   FULL                                                                   accepted
 //   FULL without its last line end, 262,143 bytes: the end counts          accepted
 //   FULL without its last line end, and one space: 262,144 bytes that
-//     lack an end count as 262,145                                         not built at 1:1
-//   FULL and one line end, a last line of no bytes: 262,145 bytes          not built at 1:1
+//     lack an end count as 262,145                                         ? 3 text too long, 262145 bytes
+//   FULL and one line end, a last line of no bytes: 262,145 bytes          ? 3 text too long, 262145 bytes
 //   FULL, whose first byte is `?` in place of `p`                          1:1 101 bad character
-//   the same and one line end: no error of a text past a limit is listed   not built at 1:1
+//   the same and one line end: no error of a text past a limit is listed   ? 3 text too long, 262145 bytes
 //   one line, `program p; begin end.`, of 4,096 bytes, ended               accepted
 //   the same line, not ended: its end is no byte of the line               accepted
-//   one line, `program p; begin end.`, of 4,097 bytes, ended               not built at 1:1
-//   the same line, not ended                                               not built at 1:1
+//   one line, `program p; begin end.`, of 4,097 bytes, ended               ? 4 line 1 too long
+//   the same line, not ended                                               ? 4 line 1 too long
 //   `program p; begin end.` in 4,096 bytes, carriage return, line end:
-//     the carriage return is a byte of the line                            not built at 1:1
-//   `program p; begin end.`, a line end, 4,097 spaces                      not built at 1:1
+//     the carriage return is a byte of the line                            ? 4 line 1 too long
+//   `program p; begin end.`, a line end, 4,097 spaces                      ? 4 line 2 too long
 //   4,095 spaces and `?`                                                   1:4096 101 bad character
-//   `?` and 4,096 spaces                                                   not built at 1:1
+//   `?` and 4,096 spaces                                                   ? 4 line 1 too long
 
 /// A text, and what `list` writes of it.
 pub(crate) type Row = (&'static [u8], &'static str);

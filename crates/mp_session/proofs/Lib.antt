@@ -1,0 +1,6 @@
+pub mod DepartureLemmas
+pub mod ListingLemmas
+pub mod ReplyLemmas
+pub mod Runs
+pub mod TextLemmas
+pub mod Told

@@ -1,0 +1,24 @@
+//! A session: the versions of a text, and the commands that are obeyed on them.
+//!
+//! What a session replies to a command is one definition, `reply`; what it writes over a whole script is another,
+//! `transcript`, a fold of the replies over the script's commands. The crate promises that `Session::obey` writes
+//! the reply and holds the state after it. It reads nothing: the bytes of a script reach it as commands. It stands on
+//! `mp_text` for the versions, on `mp_script` for the commands, on `mp_lex` and `mp_diag` for listings, and on
+//! `mp_edge` for the sink.
+#![tactic(auto)]
+
+mod departure;
+mod laws;
+mod listing;
+mod replies;
+mod session;
+mod state;
+mod texts;
+
+pub use laws::{so_far_begins_the_transcript, transcript_line_by_line};
+pub use replies::list_transcript;
+pub use session::{Session, SessionError, Turn};
+pub use state::State;
+
+#[cfg(test)]
+mod tests;

@@ -1,0 +1,159 @@
+// What no clause says: that the calls succeed with ample memory. What they write is compared with bytes worked by
+// hand.
+ghost use Rattle.std.specs.Prelude.{◌≡◌, ◌<◌, IfOk, length};
+ghost use Rattle.mp_script.specs.Meaning.{wants_of};
+
+use crate::{Session, SessionError, Turn, list_transcript};
+use mp_base::{Bytes, Memory, TextLines};
+use mp_edge::MemSink;
+use mp_script::{Command, Lines, command};
+use std::alloc::Global;
+use std::process::Abort;
+use std::test::Fail;
+
+/// A command with its lines, each ended, and what is written for it.
+type Row = (&'static str, &'static str);
+
+// The command of the first of these lines, with all the lines behind it.
+fn whole(alloc: Global, script: &str) -> Result<Command, Fail>
+    ensures verb { IfOk result (λ command. command.wants ≡ wants_of command.verb) }
+    ensures whole { IfOk result (λ command. length command.lines ≡ command.wants) }
+    ensures few { IfOk result (λ command. command.wants < 1000000000) }
+{
+    let mut cutter = Lines::new(alloc);
+    let mut lines = cutter.feed(script.as_bytes())?.into_vec();
+    if lines.is_empty() {
+        return Err(Memory)?;
+    }
+    let first = lines.remove(0);
+    let read = command(alloc, &first)?;
+    if lines.len() != read.wants as usize {
+        return Err(Memory)?;
+    }
+    Ok(Command {
+        verb: read.verb,
+        wants: read.wants,
+        lines: TextLines::from_vec(lines),
+    })
+}
+
+fn are_replied(rt: &impl Abort, alloc: Global, rows: &[Row]) -> Result<(), Fail>
+    requires { length rows.now < 1000 }
+{
+    let mut session = Session::serial(alloc)?;
+    for row in rows {
+        let (script, want) = *row;
+        let mut sink = MemSink::new(alloc, Vec::new(alloc))?;
+        let asked = whole(alloc, script)?;
+        let Ok(turn) = session.obey(asked, &mut sink) else {
+            return Err(Memory)?;
+        };
+        assert_eq!(rt; turn, Turn::On, "{script:?}");
+        assert_eq!(rt; sink.bytes(), Some(want.as_bytes()), "{script:?}");
+    }
+    session.finish();
+    Ok(())
+}
+
+#[test]
+fn commands_have_their_replies(rt: HostRuntime) -> Result<(), Fail> {
+    are_replied(
+        &rt,
+        rt.alloc(),
+        &[
+            ("text\n", "version 1, 0 lines\n"),
+            ("insert 0 2\nprogram p;\nbegin end.\n", "version 2\n"),
+            ("text\n", "version 2, 2 lines\nprogram p;\nbegin end.\n"),
+            ("list\n", "accepted\n"),
+            ("list 1\n", "not built at 1:1\n"),
+            ("sub 1 9 1\n?\n", "version 3\n"),
+            ("list\n", "1:9 101 bad character\n"),
+            ("delete 3 3\n", "? 2 out of range, last is 2\n"),
+            ("replace 2 2 1\nbegin x end.\n", "version 4\n"),
+            ("back 2\n", "version 5\n"),
+            ("text\n", "version 5, 2 lines\nprogram p;\nbegin end.\n"),
+            ("text 3\n", "version 3, 2 lines\nprogram ?;\nbegin end.\n"),
+            ("list 3\n", "1:9 101 bad character\n"),
+            ("text 6\n", "? 1 no version 6\n"),
+            ("list 0\n", "? 1 no version 0\n"),
+            ("back 7\n", "? 1 no version 7\n"),
+            ("input 2\n5\n\n", "input 2 lines\n"),
+            ("run\n", "? 90 not built\n"),
+            ("\n", ""),
+            ("delete 1 1\n", "version 6\n"),
+            ("list\n", "not built at 1:1\n"),
+        ],
+    )
+}
+
+#[test]
+fn quit_writes_nothing(rt: HostRuntime) -> Result<(), Fail> {
+    let alloc = rt.alloc();
+    let mut session = Session::serial(alloc)?;
+    // The first write would fail.
+    let mut sink = MemSink::new(alloc, Vec::from_slice(alloc, &[1])?)?;
+    let asked = whole(alloc, "quit\n")?;
+    assert_eq!(rt; session.obey(asked, &mut sink), Ok(Turn::Quit));
+    assert_eq!(rt; sink.bytes(), Some(b"".as_slice()));
+    session.finish();
+    Ok(())
+}
+
+#[test]
+fn a_failed_write_is_told(rt: HostRuntime) -> Result<(), Fail> {
+    let alloc = rt.alloc();
+    let mut session = Session::serial(alloc)?;
+    let mut sink = MemSink::new(alloc, Vec::from_slice(alloc, &[1])?)?;
+    let asked = whole(alloc, "text\n")?;
+    assert_eq!(rt;
+        session.obey(asked, &mut sink),
+        Err(SessionError::WriteFault)
+    );
+    assert_eq!(rt; sink.bytes(), Some(b"".as_slice()));
+    session.finish();
+    Ok(())
+}
+
+// The listing of a text that is not empty and ends in a line end.
+fn listed(alloc: Global, text: &[u8]) -> Result<Bytes, Memory> {
+    if text.len() > 10_000 {
+        return Err(Memory);
+    }
+    if text.is_empty() {
+        return Err(Memory);
+    }
+    if text[text.len() - 1] == b'\n' {
+        return list_transcript(alloc, text);
+    }
+    Err(Memory)
+}
+
+#[test]
+fn texts_are_listed_outside_a_session(rt: HostRuntime) -> Result<(), Fail> {
+    let alloc = rt.alloc();
+    for (text, want) in [
+        ("\n", "not built at 2:1\n"),
+        ("program p; begin end.\n", "accepted\n"),
+        ("program p;\nbegin ; end.\n", "not built at 2:7\n"),
+        ("begin\n?\n", "2:1 101 bad character\n"),
+    ] {
+        let written = listed(alloc, text.as_bytes())?;
+        assert_eq!(rt; written.get(), want.as_bytes(), "{text:?}");
+    }
+    Ok(())
+}
+
+#[test]
+fn a_line_of_4097_bytes_is_refused(rt: HostRuntime) -> Result<(), Fail> {
+    let alloc = rt.alloc();
+    for (count, want) in [(4096, "accepted\n"), (4097, "? 4 line 2 too long\n")] {
+        let mut text = Vec::from_slice(alloc, b"program p; begin end.\n")?;
+        for _ in 0..count {
+            text.push(b' ')?;
+        }
+        text.push(b'\n')?;
+        let written = listed(alloc, text.as_slice())?;
+        assert_eq!(rt; written.get(), want.as_bytes(), "{count}");
+    }
+    Ok(())
+}
