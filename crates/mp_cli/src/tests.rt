@@ -422,3 +422,127 @@ fn a_script_of_67108864_bytes_is_past_the_limit(rt: HostRuntime) -> Result<(), F
     }
     Ok(())
 }
+
+// So many lines of so many spaces between two pieces of a script. The last of them is ended by what comes behind it.
+fn padded(
+    alloc: Global,
+    front: &[u8],
+    count: usize,
+    len: usize,
+    back: &[u8],
+) -> Result<Vec<u8>, Fail> {
+    let mut script = Vec::from_slice(alloc, front)?;
+    for i in 0..count {
+        if i > 0 {
+            script.push(b'\n')?;
+        }
+        for _ in 0..len {
+            script.push(b' ')?;
+        }
+    }
+    script.extend_from_slice(back)?;
+    Ok(script)
+}
+
+// What comes before so many lines of so many spaces, how many and how long these are, what comes behind, and what
+// `serial` writes.
+type Limits = (&'static [u8], usize, usize, &'static [u8], &'static str);
+
+fn keeps_the_limits(rt: &impl Abort, alloc: Global, rows: &[Limits]) -> Result<(), Fail> {
+    for (front, count, len, back, transcript) in rows {
+        let script = padded(alloc, front, *count, *len, back)?;
+        let (status, written) = answered(alloc, script.as_slice())?;
+        assert_eq!(rt; status, Status::Done);
+        assert_eq!(rt; written.get(), transcript.as_bytes());
+    }
+    Ok(())
+}
+
+const LINE_LIMITS: &[Limits] = &[
+    (b"insert 0 1\n", 1, 4096, b"\n", "version 2\n"),
+    (b"insert 0 1\n", 1, 4097, b"\n", "? 4 line 1 too long\n"),
+    // the byte 13 of a taken line counts
+    (b"insert 0 1\n", 1, 4096, b"\r\n", "? 4 line 1 too long\n"),
+    (b"insert 0 2\na\n", 1, 4097, b"\n", "? 4 line 2 too long\n"),
+    (
+        b"insert 0 1\n",
+        1,
+        4096,
+        b"\nsub 1 4097 0\nx\n",
+        "version 2\n? 4 line 1 too long\n",
+    ),
+    // the end of the script comes first, and a line out of range
+    (b"insert 0 2\n", 1, 4097, b"\n", "? 25 script ended\n"),
+    (
+        b"insert 1 1\n",
+        1,
+        4097,
+        b"\n",
+        "? 2 out of range, last is 0\n",
+    ),
+];
+
+const TEXT_LIMITS: &[Limits] = &[
+    // 64 * 4,096 = 262,144 bytes
+    (b"insert 0 64\n", 64, 4095, b"\n", "version 2\n"),
+    (
+        b"insert 0 64\n",
+        64,
+        4095,
+        b"\ninsert 64 1\n\n",
+        "version 2\n? 3 text too long, 262145 bytes\n",
+    ),
+    (
+        b"insert 0 64\n",
+        64,
+        4095,
+        b"\nsub 64 1 0\nx\n",
+        "version 2\n? 3 text too long, 262145 bytes\n",
+    ),
+    // 64 * 4,097 = 262,208 bytes
+    (
+        b"insert 0 64\n",
+        64,
+        4096,
+        b"\n",
+        "? 3 text too long, 262208 bytes\n",
+    ),
+    (
+        b"insert 1 64\n",
+        64,
+        4096,
+        b"\n",
+        "? 2 out of range, last is 0\n",
+    ),
+    (b"insert 0 64\n", 64, 4097, b"\n", "? 4 line 1 too long\n"),
+];
+
+#[test]
+fn a_session_keeps_the_limits_of_texts(rt: HostRuntime) -> Result<(), Fail> {
+    let alloc = rt.alloc();
+    keeps_the_limits(&rt, alloc, LINE_LIMITS)?;
+    keeps_the_limits(&rt, alloc, TEXT_LIMITS)?;
+    Ok(())
+}
+
+#[test]
+fn a_session_has_4096_versions(rt: HostRuntime) -> Result<(), Fail> {
+    let alloc = rt.alloc();
+    let mut script = Vec::new(alloc);
+    for _ in 1..4096 {
+        script.extend_from_slice(b"back 1\n")?;
+    }
+    let (_, before) = answered(alloc, script.as_slice())?;
+    assert!(rt; before.get().ends_with(b"version 4096\n"));
+    script.extend_from_slice(
+        b"back 1\nback 4097\ndelete 1 1\ninsert 0 1\nx\ntext 4097\ntext 4096\n",
+    )?;
+    let (_, written) = answered(alloc, script.as_slice())?;
+    let mut want = Vec::from_slice(alloc, before.get())?;
+    for _ in 0..4 {
+        want.extend_from_slice(b"? 5 versions full\n")?;
+    }
+    want.extend_from_slice(b"? 1 no version 4097\nversion 4096, 0 lines\n")?;
+    assert_eq!(rt; written.get(), want.as_slice());
+    Ok(())
+}
