@@ -10,11 +10,12 @@ use Rattle.mp_session.specs.Replies.{start}
 use Rattle.mp_session.specs.Transcript.{Answered, so_far, transcript, script_ended, Quits}
 use Rattle.mp_session.specs.Lines.{Stand, Ran, step, after, from, closing, idle, ran_so_far}
 use Rattle.mp_session.proofs.Runs.{ran_append, quit_is_all, ended_bare, ended_line, after_none}
-use Rattle.mp_session.proofs.Told.{answers_alike, quit_stays, so_far_begins}
+use Rattle.mp_session.proofs.Told.{answers_alike, quit_stays, quits_more, so_far_begins}
+use Rattle.mp_base.specs.declared.limits.TheConstants.{SCRIPT_LIMIT}
 use Rattle.mp_cli.specs.declared.forms.Form.TheVariants as form
 use Rattle.mp_cli.specs.declared.status.Status.{Status}
 use Rattle.mp_cli.specs.declared.status.Status.TheVariants as status
-use Rattle.mp_cli.specs.Top.{Completes, Met}
+use Rattle.mp_cli.specs.Top.{Completes, IsWithinLimit, LastRead, Met, QuitsInTime}
 use Rattle.mp_cli.specs.Talk.{last_bytes}
 
 -- the bytes taken and written so far have led to where a script stands, and this is the part after the last line end
@@ -89,6 +90,29 @@ grows_back a b t h c k = rw append-nil at (grows_more a b c t [] h k)
 pub no_quit : (t w rest : List ℕ) (stand : Stand) → Reached t w rest stand → Quits t → ⊥
 no_quit t w rest stand h q = let e : false ≡ true = sym (ap (λ (r : Ran). is_none r.now) h.run) ∙ ap (λ (a : Answered). a.quit) (answers_alike t).so_far ∙ q in absurd (cc)
 
+-- the last read gave this piece, and then these bytes were written
+pub last_read : (t w rest piece more : List ℕ) (stand : Stand) → Reached t w rest stand → length piece ≤ 4096 → LastRead (t ++ piece) (w ++ more)
+last_read t w rest piece more stand h short = record {
+  before = t;
+  given = piece;
+  all = refl;
+  one_read = short;
+  no_quit = no_quit t w rest stand h;
+  answered = (more, ap (λ x. x ++ more) (written_so_far t w rest stand h));
+}
+
+-- nothing was written of what the last read gave
+pub last_unanswered : (t w rest piece : List ℕ) (stand : Stand) → Reached t w rest stand → length piece ≤ 4096 → LastRead (t ++ piece) w
+last_unanswered t w rest piece stand h short = rw append-nil at (last_read t w rest piece [] stand h short)
+
+-- the last read gave nothing
+pub last_empty : (t w rest more : List ℕ) (stand : Stand) → Reached t w rest stand → LastRead t (w ++ more)
+last_empty t w rest more stand h = subst (λ x. LastRead x (w ++ more)) (append-nil t) (last_read t w rest [] more stand h (omega arith))
+
+-- the last read gave nothing, and nothing was written
+pub last_nothing : (t w rest : List ℕ) (stand : Stand) → Reached t w rest stand → LastRead t w
+last_nothing t w rest stand h = subst (LastRead t) (append-nil w) (last_empty t w rest [] stand h)
+
 -- the last line of a script, of whose reply or closing a part was written
 pub part_line : (stand : Stand) (rest line f : List ℕ) → line ≡ rest → rest ≢ [] → IsFront f (step stand line).bytes → IsFront f (last_bytes stand rest)
 part_line stand [] line f e ne p = absurd (ne refl)
@@ -105,6 +129,9 @@ part_closing stand next (b ∷ rest) line f e ne n p =
 
 pub none_written : IsFront [] (so_far [])
 none_written = front_so_far [] [] [] (idle start) reached_none
+
+pub nothing_read : LastRead [] []
+nothing_read = last_nothing [] [] [] (idle start) reached_none
 
 -- the told bytes stay as they are where nothing is added
 pub consumes_back : (a b : Option (List ℕ)) (t : List ℕ) → Consumes a b t → (c : Option (List ℕ)) → Consumes b c [] → Consumes a c t
@@ -124,6 +151,25 @@ rest_of : (left : Option (List ℕ)) (bytes taken : List ℕ) → Consumes (Some
 rest_of None bytes taken c = absurd c
 rest_of (Some rest) bytes taken c = (rest, c, λ h. h)
 
+-- of two fronts of a list the shorter is a front of the longer
+front_of_front : (a b r s : List ℕ) → a ++ r ≡ b ++ s → length a ≤ length b → IsFront a b
+front_of_front [] b r s e h = (b, refl)
+front_of_front (x ∷ a) [] r s e h = absurd (omega arith)
+front_of_front (x ∷ a) (y ∷ b) r s e h =
+    let head : x ≡ y = cc in
+    let tail : a ++ r ≡ b ++ s = cc in
+    let p = front_of_front a b r s tail (omega arith) in
+    (p.0, ap (λ z. z ∷ b) (sym head) ∙ ap (λ l. x ∷ l) p.1)
+
+-- where as many bytes were taken as a script may have and no `quit` is among them, the bytes are not within the limit
+past_limit : (bytes taken rest : List ℕ) → bytes ≡ taken ++ rest → length taken ≡ SCRIPT_LIMIT → ¬ Quits taken → IsWithinLimit form.Serial bytes → ⊥
+past_limit bytes taken rest all full none within = ⊎_elim (λ few. let n = ap length all ∙ length-append taken rest in absurd (omega (arith, n, few, full))) late within
+  where
+    late : QuitsInTime bytes → ⊥
+    late q =
+        let p = front_of_front q.front taken q.first.0 rest (sym q.first.1 ∙ all) (omega (arith, q.few, full)) in
+        none (subst Quits (sym p.1) (quits_more q.front p.0 q.quits))
+
 -- the whole answer to the bytes that were left before the call, where they are known
 pub completes_serial : (ended : Status) (taken_before taken_after left_before left_after written_before written_after : Option (List ℕ))
     → Met (Some form.Serial) ended taken_before taken_after left_before left_after written_before written_after
@@ -131,12 +177,11 @@ pub completes_serial : (ended : Status) (taken_before taken_after left_before le
 completes_serial status.Words tb ta lb la wb wa m r w = absurd m.holds
 completes_serial status.ReadFault tb ta lb la wb wa m r w = absurd (r refl)
 completes_serial status.WriteFault tb ta lb la wb wa m r w = absurd (w refl)
-completes_serial status.Memory tb ta lb la wb wa m r w = λ bytes e few. inl refl
-completes_serial status.ScriptLimit tb ta lb la wb wa m r w = λ bytes e few.
+completes_serial status.Memory tb ta lb la wb wa m r w = λ bytes e within. inl refl
+completes_serial status.ScriptLimit tb ta lb la wb wa m r w = λ bytes e within.
     let p = rest_of la bytes m.taken (subst (λ l. Consumes l la m.taken) e m.leaves) in
-    let all : length bytes ≡ length m.taken + length p.0 = ap length p.1 ∙ length-append m.taken p.0 in
-    absurd (omega (arith, all, few, m.holds.2))
-completes_serial status.Done tb ta lb la wb wa m r w = λ bytes e few.
+    absurd (past_limit bytes m.taken p.0 p.1 m.holds.2 m.holds.1 within)
+completes_serial status.Done tb ta lb la wb wa m r w = λ bytes e within.
     let p = rest_of la bytes m.taken (subst (λ l. Consumes l la m.taken) e m.leaves) in
     let same : transcript bytes ≡ transcript m.taken =
     ⊎_elim

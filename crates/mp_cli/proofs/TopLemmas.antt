@@ -39,4 +39,5 @@ met_nothing taken left written = record {
   writes = grows_none written;
   limit = omega arith;
   holds = (refl, refl, refl);
+  last_read = tt;
 }

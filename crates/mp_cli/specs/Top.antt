@@ -1,5 +1,5 @@
 -- What the top calls promise, form by form and status by status.
-use Rattle.std.specs.Prelude.{◌≡◌, ℕ, ◌<◌, ◌≤◌, Bool, true, false, List, [], length, Option, Some, None, ⊤, ◌⊎◌}
+use Rattle.std.specs.Prelude.{◌≡◌, ℕ, ◌<◌, ◌≤◌, ◌++◌, Bool, true, false, List, [], length, Option, Some, None, ⊤, ◌⊎◌}
 use Rattle.std.specs.Io.KnownBytes.{Consumes, IsAtEnd}
 use Rattle.mp_base.specs.declared.limits.TheConstants.{SCRIPT_LIMIT}
 use Rattle.mp_base.specs.Text.{lines_of}
@@ -70,6 +70,23 @@ abbrev pub HoldsFor : Option Form → Status → List ℕ → List ℕ → Optio
 HoldsFor None ended taken written left = (ended ≡ status.Words) × (taken ≡ []) × (written ≡ [])
 HoldsFor (Some asked) ended taken written left = Holds asked ended taken written left
 
+-- The last read of a script gave at most 4,096 bytes. What was taken before it holds no whole `quit` line, and all that
+-- is answered of that was written: no read follows one that brought the end of a `quit` line, or that brought a command
+-- whose reply was not written.
+pub record LastRead (taken written : List ℕ) : Type 0 where
+  pub before : List ℕ
+  pub given : List ℕ
+  pub all : taken ≡ before ++ given
+  pub one_read : length given ≤ 4096
+  pub no_quit : ¬ Quits before
+  pub answered : IsFront (so_far before) written
+
+-- the same for words of a form; a text is read to its end before any of it is answered
+abbrev pub LastReadFor : Option Form → List ℕ → List ℕ → Type 0
+LastReadFor None taken written = ⊤
+LastReadFor (Some form.List) taken written = ⊤
+LastReadFor (Some form.Serial) taken written = LastRead taken written
+
 -- What a call took and wrote. The bytes are those that the source and the sink tell, and those that were left of
 -- the source; where one of them tells nothing, nothing is said of it.
 pub record Met (asked : Option Form) (ended : Status) (taken_before taken_after left_before left_after written_before written_after : Option (List ℕ)) : Type 0 where
@@ -80,11 +97,24 @@ pub record Met (asked : Option Form) (ended : Status) (taken_before taken_after 
   pub writes : Grows written_before written_after written
   pub limit : length taken ≤ SCRIPT_LIMIT
   pub holds : HoldsFor asked ended taken written left_after
+  pub last_read : LastReadFor asked taken written
 
--- Where the bytes left before the call are known and fewer than a script may have, all of the answer to them is
--- written, or memory was wanting.
+-- A whole `quit` line of the script stands in the first bytes, no more of them than a script may have.
+pub record QuitsInTime (script : List ℕ) : Type 0 where
+  pub front : List ℕ
+  pub first : IsFront front script
+  pub few : length front ≤ SCRIPT_LIMIT
+  pub quits : Quits front
+
+-- a text, or a script up to its first `quit`, has fewer bytes than it may have
+abbrev pub IsWithinLimit : Form → List ℕ → Type 0
+IsWithinLimit form.List bytes = length bytes < SCRIPT_LIMIT
+IsWithinLimit form.Serial bytes = (length bytes < SCRIPT_LIMIT) ⊎ QuitsInTime bytes
+
+-- Where the bytes left before the call are known and within the limit, all of the answer to them is written, or memory
+-- was wanting.
 abbrev pub Completes : Option Form → Status → Option (List ℕ) → Option (List ℕ) → Option (List ℕ) → Type 0
 Completes None ended left written_before written_after = ⊤
 Completes (Some asked) ended left written_before written_after =
-    (bytes : List ℕ) → left ≡ Some bytes → length bytes < SCRIPT_LIMIT
+    (bytes : List ℕ) → left ≡ Some bytes → IsWithinLimit asked bytes
     → (ended ≡ status.Memory) ⊎ ((ended ≡ status.Done) × Grows written_before written_after (transcript_of asked bytes))

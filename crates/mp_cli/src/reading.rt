@@ -21,7 +21,7 @@ pub(crate) enum Ending {
 }
 
 /// Bytes of one read at most.
-const BUFFER_SIZE: usize = 4_096;
+pub(crate) const BUFFER_SIZE: usize = 4_096;
 
 /// Reads to the end, to the limit, or to a fault, and puts what comes into an empty text.
 pub(crate) fn read_all<S: Source>(source: &mut S, text: &mut Vec<u8>) -> Ending

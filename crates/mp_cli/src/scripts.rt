@@ -8,6 +8,7 @@ ghost use Rattle.mp_cli.specs.Talk.{IsOpen, last_bytes, standing, write_failed};
 ghost use Rattle.mp_cli.specs.Top.{Met, read_failed_at, write_failed_at};
 
 use crate::forms::Form;
+use crate::reading::BUFFER_SIZE;
 use crate::status::Status;
 use crate::talk::{take_line, take_lines};
 use mp_base::SCRIPT_LIMIT;
@@ -15,9 +16,6 @@ use mp_edge::{Got, Sink, Source, write_all};
 use mp_script::{Command, Lines};
 use mp_session::{Session, SessionError, Turn};
 use std::alloc::Global;
-
-/// Bytes of one read at most.
-const BUFFER_SIZE: usize = 4_096;
 
 // What is written at the end for a command that still waits.
 fn close<K: Sink>(waiting: &Option<Command>, sink: &mut K) -> Result<(), SessionError>

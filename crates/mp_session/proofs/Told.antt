@@ -179,6 +179,13 @@ quit_run r h = go r.bytes r.now h
     go bytes None h = refl
     go bytes (Some stand) h = let f : false ≡ true = h in absurd (cc)
 
+-- a `quit` stays where more follows
+pub quits_more : (t more : List ℕ) → Quits t → Quits (t ++ more)
+quits_more t more q =
+    let r = ran_so_far t in
+    let e = quit_run r (ap (λ (a : Answered). a.quit) (answers_alike t).so_far ∙ q) in
+    sym (ap (λ (a : Answered). a.quit) (answers_alike (t ++ more)).so_far) ∙ ap (λ (x : Ran). is_none x.now) (quit_append t more r.bytes e)
+
 -- what follows a `quit` changes nothing
 pub quit_stays : (t more : List ℕ) → Quits t → transcript (t ++ more) ≡ transcript t
 quit_stays t more q =

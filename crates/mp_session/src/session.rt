@@ -1,4 +1,4 @@
-ghost use Rattle.std.specs.Prelude.{◌≡◌, ◌≤◌, ◌<◌, ◌+◌, ◌^◌, [], IfOk, OnOk, OnErr, Err, is_err, length};
+ghost use Rattle.std.specs.Prelude.{◌≡◌, ◌≢◌, ◌≤◌, ◌<◌, ◌+◌, ◌^◌, [], IfOk, OnOk, OnErr, Err, is_err, length};
 ghost use Rattle.mp_edge.specs.Causes.{Rose, counted};
 ghost use Rattle.mp_edge.specs.Told.{Grows, GrowsPartly};
 ghost use Rattle.mp_script.specs.Meaning.{wants_of};
@@ -89,6 +89,7 @@ impl Session {
         ensures state { OnOk result (self.new.state ≡ (reply self.old.state command).state) }
         ensures written { OnOk result (Grows (K.written sink.old) (K.written sink.new) (reply self.old.state command).bytes) }
         ensures partly { OnErr result (GrowsPartly (K.written sink.old) (K.written sink.new) (reply self.old.state command).bytes) }
+        ensures empty { (reply self.old.state command).bytes ≡ [] → (sink.new ≡ sink.old) × (result ≢ Err SessionError.WriteFault) }
         ensures turn { IfOk result (λ turn. turn ≡ turn_of command.verb) }
         ensures count { OnOk result (self.new.obeyed ≡ self.old.obeyed + 1) }
 

@@ -4,7 +4,7 @@ use Rattle.mp_base.specs.declared.limits.TheConstants.{SCRIPT_LIMIT}
 use Rattle.mp_edge.proofs.ToldLemmas.{grows_none, grows_more, consumes_none, consumes_more}
 use Rattle.mp_session.specs.Replies.{View}
 use Rattle.mp_cli.specs.Talk.{standing}
-use Rattle.mp_cli.proofs.ScriptLemmas.{reached_none, led, reached_more, quit_more, quit_all, quits, written_so_far, front_all, part_more, ended, part_end, grows_back, consumes_back, no_quit, cut_count}
+use Rattle.mp_cli.proofs.ScriptLemmas.{reached_none, led, reached_more, quit_more, quit_all, quits, written_so_far, front_all, part_more, ended, part_end, grows_back, consumes_back, no_quit, cut_count, last_read, last_unanswered, last_empty, last_nothing}
 use Rattle.mp_cli.proofs.scripts.obey_script.Goals as goal
 
 pub reads-init : goal.reads-init
@@ -34,6 +34,7 @@ returns-in-Ok-clause-met g c =
       writes = grows_more _ _ _ h.1 _ h.4 c.in-Ok.ensures.ok;
       limit = omega (arith, h.5, c.reads.invariant.within);
       holds = (sym (ended h.0 h.1 c.reads.lines stand h.6), inl (c.in-End.ensures.end refl, omega (arith, h.5)));
+      last_read = last_empty h.0 h.1 c.reads.lines _ stand h.6;
     }
 
 pub returns-in-Err-WriteFault-clause-met : goal.returns-in-Err-WriteFault-clause-met
@@ -49,6 +50,7 @@ returns-in-Err-WriteFault-clause-met g c =
       writes = grows_more _ _ _ h.1 p.0 h.4 p.1;
       limit = omega (arith, h.5, c.reads.invariant.within);
       holds = (part_end h.0 h.1 c.reads.lines p.0 stand h.6 p.2, inr (c.in-End.ensures.end refl));
+      last_read = last_empty h.0 h.1 c.reads.lines p.0 stand h.6;
     }
 
 pub returns-in-Err-Memory-clause-met : goal.returns-in-Err-Memory-clause-met
@@ -64,6 +66,7 @@ returns-in-Err-Memory-clause-met g c =
       writes = grows_more _ _ _ h.1 p.0 h.4 p.1;
       limit = omega (arith, h.5, c.reads.invariant.within);
       holds = (part_end h.0 h.1 c.reads.lines p.0 stand h.6 p.2, inr (c.in-End.ensures.end refl));
+      last_read = last_empty h.0 h.1 c.reads.lines p.0 stand h.6;
     }
 
 pub returns-in-Err-clause-met : goal.returns-in-Err-clause-met
@@ -73,6 +76,7 @@ returns-in-Err-clause-met g c =
     let piece : List ℕ = take c.in-Bytes.count c.read.new.buf in
     let lt = c.in-Bytes.ensures.within.0 in
     let full : length (h.0 ++ piece) ≤ SCRIPT_LIMIT = omega (arith, h.5, lt, c.read.auto.buf, length-take {A = ℕ}, length-append h.0 piece, c.min-room.ensures) in
+    let short : length piece ≤ 4096 = omega (arith, lt, c.read.auto.buf, length-take {A = ℕ}, c.min-room.ensures) in
     let p = part_more h.0 h.1 c.reads.lines piece [] stand h.6 ((led stand c.reads.lines piece).bytes, refl) in
     let q = rw append-nil at p in
     record {
@@ -83,6 +87,7 @@ returns-in-Err-clause-met g c =
       writes = h.4;
       limit = full;
       holds = (front_all (h.0 ++ piece) h.1 q, inl q);
+      last_read = last_unanswered h.0 h.1 c.reads.lines piece stand h.6 short;
     }
 
 pub reads-preserved : goal.reads-preserved
@@ -125,6 +130,7 @@ returns-in-Ok-Quit-clause-met g c =
     let piece : List ℕ = take c.in-Bytes.count c.read.new.buf in
     let lt = c.in-Bytes.ensures.within.0 in
     let full : length (h.0 ++ piece) ≤ SCRIPT_LIMIT = omega (arith, h.5, lt, c.read.auto.buf, length-take {A = ℕ}, length-append h.0 piece, c.min-room.ensures) in
+    let short : length piece ≤ 4096 = omega (arith, lt, c.read.auto.buf, length-take {A = ℕ}, c.min-room.ensures) in
     let w = rw take-append-le at c.in-Ok-feed.ensures.lines in
     let n = rw w at (rw c.in-Ok-Quit.field-0-is at c.in-Ok-Quit.ensures.now) in
     let b = rw w at c.in-Ok-Quit.ensures.written in
@@ -137,6 +143,7 @@ returns-in-Ok-Quit-clause-met g c =
       writes = grows_more _ _ _ h.1 _ h.4 b;
       limit = full;
       holds = (quit_all (h.0 ++ piece) (h.1 ++ (led stand c.reads.lines piece).bytes) q, inr (quits (h.0 ++ piece) (h.1 ++ (led stand c.reads.lines piece).bytes) q));
+      last_read = last_read h.0 h.1 c.reads.lines piece (led stand c.reads.lines piece).bytes stand h.6 short;
     }
 
 pub returns-in-Err-WriteFault-take_lines-clause-met : goal.returns-in-Err-WriteFault-take_lines-clause-met
@@ -146,6 +153,7 @@ returns-in-Err-WriteFault-take_lines-clause-met g c =
     let piece : List ℕ = take c.in-Bytes.count c.read.new.buf in
     let lt = c.in-Bytes.ensures.within.0 in
     let full : length (h.0 ++ piece) ≤ SCRIPT_LIMIT = omega (arith, h.5, lt, c.read.auto.buf, length-take {A = ℕ}, length-append h.0 piece, c.min-room.ensures) in
+    let short : length piece ≤ 4096 = omega (arith, lt, c.read.auto.buf, length-take {A = ℕ}, c.min-room.ensures) in
     let w = rw take-append-le at c.in-Ok-feed.ensures.lines in
     let p = rw w at c.in-Err-WriteFault-take_lines.ensures.partly in
     let q = part_more h.0 h.1 c.reads.lines piece p.0 stand h.6 p.2 in
@@ -157,6 +165,7 @@ returns-in-Err-WriteFault-take_lines-clause-met g c =
       writes = grows_more _ _ _ h.1 p.0 h.4 p.1;
       limit = full;
       holds = (front_all (h.0 ++ piece) (h.1 ++ p.0) q, inl q);
+      last_read = last_read h.0 h.1 c.reads.lines piece p.0 stand h.6 short;
     }
 
 pub returns-in-Err-Memory-take_lines-clause-met : goal.returns-in-Err-Memory-take_lines-clause-met
@@ -166,6 +175,7 @@ returns-in-Err-Memory-take_lines-clause-met g c =
     let piece : List ℕ = take c.in-Bytes.count c.read.new.buf in
     let lt = c.in-Bytes.ensures.within.0 in
     let full : length (h.0 ++ piece) ≤ SCRIPT_LIMIT = omega (arith, h.5, lt, c.read.auto.buf, length-take {A = ℕ}, length-append h.0 piece, c.min-room.ensures) in
+    let short : length piece ≤ 4096 = omega (arith, lt, c.read.auto.buf, length-take {A = ℕ}, c.min-room.ensures) in
     let w = rw take-append-le at c.in-Ok-feed.ensures.lines in
     let p = rw w at c.in-Err-Memory-take_lines.ensures.partly in
     let q = part_more h.0 h.1 c.reads.lines piece p.0 stand h.6 p.2 in
@@ -177,6 +187,7 @@ returns-in-Err-Memory-take_lines-clause-met g c =
       writes = grows_more _ _ _ h.1 p.0 h.4 p.1;
       limit = full;
       holds = (front_all (h.0 ++ piece) (h.1 ++ p.0) q, inl q);
+      last_read = last_read h.0 h.1 c.reads.lines piece p.0 stand h.6 short;
     }
 
 pub returns-in-Failed-clause-met : goal.returns-in-Failed-clause-met
@@ -191,6 +202,7 @@ returns-in-Failed-clause-met g c =
       writes = h.4;
       limit = omega (arith, h.5, c.reads.invariant.within);
       holds = (written_so_far h.0 h.1 c.reads.lines stand h.6, no_quit h.0 h.1 c.reads.lines stand h.6, omega (arith, h.5));
+      last_read = last_nothing h.0 h.1 c.reads.lines stand h.6;
     }
 
 pub returns-clause-met : goal.returns-clause-met
@@ -205,6 +217,7 @@ returns-clause-met g c =
       writes = h.4;
       limit = omega (arith, h.5, c.reads.invariant.within);
       holds = (written_so_far h.0 h.1 c.reads.lines stand h.6, no_quit h.0 h.1 c.reads.lines stand h.6, omega (arith, h.5, c.reads.invariant.within));
+      last_read = last_nothing h.0 h.1 c.reads.lines stand h.6;
     }
 
 pub take_lines-requires-clause-count : goal.take_lines-requires-clause-count

@@ -25,6 +25,7 @@ returns-in-Err-write_all-clause-met g c =
       writes = partly.1;
       limit = omega arith;
       holds = (front_of partly.0 c.get.result.now _ is partly.2, inr c.in-End.ensures.ending.1);
+      last_read = tt;
     }
 
 pub returns-clause-met : goal.returns-clause-met
@@ -40,4 +41,5 @@ returns-clause-met g c =
       writes = c.in-Ok-write_all.ensures.ok;
       limit = omega arith;
       holds = (is, inl (c.in-End.ensures.ending.1, short));
+      last_read = tt;
     }
