@@ -2,43 +2,50 @@ use crate::{Command, Lines, Verb, command};
 use mp_base::TextLines;
 use std::alloc::Global;
 use std::fmt::Write;
-use std::process::Abort;
 use std::test::Fail;
 
-// The words of a verb whose number may be left out.
-fn write_optional(out: &mut String, word: &str, number: Option<u32>) -> Result<(), Fail> {
-    match number {
-        Some(number) => write!(out, "{word} {number}")?,
-        None => write!(out, "{word}")?,
-    }
-    Ok(())
-}
-
-fn write_verb(out: &mut String, verb: &Verb) -> Result<(), Fail> {
+// The word of a verb, and its numbers.
+fn parts(verb: &Verb) -> (&'static str, [Option<u32>; 3]) {
     match verb {
-        Verb::Nothing => write!(out, "nothing")?,
-        Verb::Insert { after, count } => write!(out, "insert {after} {count}")?,
-        Verb::Delete { first, last } => write!(out, "delete {first} {last}")?,
-        Verb::Replace { first, last, count } => write!(out, "replace {first} {last} {count}")?,
+        Verb::Nothing => ("nothing", [None, None, None]),
+        Verb::Insert { after, count } => ("insert", [Some(*after), Some(*count), None]),
+        Verb::Delete { first, last } => ("delete", [Some(*first), Some(*last), None]),
+        Verb::Replace { first, last, count } => {
+            ("replace", [Some(*first), Some(*last), Some(*count)])
+        }
         Verb::Sub {
             line,
             column,
             count,
-        } => write!(out, "sub {line} {column} {count}")?,
-        Verb::Back { version } => write!(out, "back {version}")?,
-        Verb::Text { version } => write_optional(out, "text", *version)?,
-        Verb::List { version } => write_optional(out, "list", *version)?,
-        Verb::Ready => write!(out, "ready")?,
-        Verb::Input { count } => write!(out, "input {count}")?,
-        Verb::Break { line } => write!(out, "break {line}")?,
-        Verb::Clear { line } => write!(out, "clear {line}")?,
-        Verb::Run { steps } => write_optional(out, "run", *steps)?,
-        Verb::Go { steps } => write_optional(out, "go", *steps)?,
-        Verb::Step { steps } => write_optional(out, "step", *steps)?,
-        Verb::Show { access } => write!(out, "show <{}>", str::from_utf8(access.get())?)?,
-        Verb::Chain => write!(out, "where")?,
-        Verb::Kill => write!(out, "kill")?,
-        Verb::Quit => write!(out, "quit")?,
+        } => ("sub", [Some(*line), Some(*column), Some(*count)]),
+        Verb::Back { version } => ("back", [Some(*version), None, None]),
+        Verb::Text { version } => ("text", [*version, None, None]),
+        Verb::List { version } => ("list", [*version, None, None]),
+        Verb::Ready => ("ready", [None, None, None]),
+        Verb::Input { count } => ("input", [Some(*count), None, None]),
+        Verb::Break { line } => ("break", [Some(*line), None, None]),
+        Verb::Clear { line } => ("clear", [Some(*line), None, None]),
+        Verb::Run { steps } => ("run", [*steps, None, None]),
+        Verb::Go { steps } => ("go", [*steps, None, None]),
+        Verb::Step { steps } => ("step", [*steps, None, None]),
+        Verb::Show { .. } => ("show", [None, None, None]),
+        Verb::Chain => ("where", [None, None, None]),
+        Verb::Kill => ("kill", [None, None, None]),
+        Verb::Quit => ("quit", [None, None, None]),
+    }
+}
+
+// A verb with its numbers or its access.
+fn write_verb(out: &mut String, verb: &Verb) -> Result<(), Fail> {
+    let (word, numbers) = parts(verb);
+    out.push_str(word)?;
+    for number in numbers {
+        if let Some(number) = number {
+            write!(out, " {number}")?;
+        }
+    }
+    if let Verb::Show { access } = verb {
+        write!(out, " <{}>", str::from_utf8(access.get())?)?;
     }
     Ok(())
 }
@@ -76,189 +83,160 @@ fn read(alloc: Global, line: &str) -> Result<String, Fail> {
     commands_of(alloc, &lines.feed(b"\n")?)
 }
 
-fn are_read(rt: &impl Abort, alloc: Global, rows: &[(&str, &str)]) -> Result<(), Fail> {
-    for (line, want) in rows {
-        assert_eq!(rt; read(alloc, line)?.as_str(), *want);
+/// A line, and the command that it means.
+type Row = (&'static str, &'static str);
+
+/// Each form of a command.
+const FORMS: &[Row] = &[
+    ("insert 0 3", "[insert 0 3, wants 3]"),
+    ("insert 0 0", "[insert 0 0]"),
+    ("delete 1 2", "[delete 1 2]"),
+    ("replace 1 2 4", "[replace 1 2 4, wants 4]"),
+    ("sub 1 2 3", "[sub 1 2 3, wants 1]"),
+    ("back 7", "[back 7]"),
+    ("text", "[text]"),
+    ("text 2", "[text 2]"),
+    ("list", "[list]"),
+    ("list 3", "[list 3]"),
+    ("ready", "[ready]"),
+    ("input 5", "[input 5, wants 5]"),
+    ("break 9", "[break 9]"),
+    ("clear 9", "[clear 9]"),
+    ("run", "[run]"),
+    ("run 10", "[run 10]"),
+    ("go", "[go]"),
+    ("go 10", "[go 10]"),
+    ("step", "[step]"),
+    ("step 10", "[step 10]"),
+    ("show x", "[show <x>]"),
+    ("where", "[where]"),
+    ("kill", "[kill]"),
+    ("quit", "[quit]"),
+];
+
+/// Spaces, tabs and one byte 13 at the end are no words.
+const BLANKS: &[Row] = &[
+    ("", "[nothing]"),
+    ("\r", "[nothing]"),
+    (" \t ", "[nothing]"),
+    (" \t\r", "[nothing]"),
+    ("\tinsert \t 1\t2 ", "[insert 1 2, wants 2]"),
+    ("quit\r", "[quit]"),
+    ("quit \r", "[quit]"),
+    ("quit\r\r", "[bad command]"),
+    ("quit\r ", "[bad command]"),
+    ("\rquit", "[bad command]"),
+    ("\u{c}quit", "[bad command]"),
+    ("list\u{c}", "[bad command]"),
+];
+
+/// A number has one to nine digits.
+const NUMBERS: &[Row] = &[
+    ("back 007", "[back 7]"),
+    ("back 000000000", "[back 0]"),
+    ("input 999999999", "[input 999999999, wants 999999999]"),
+    ("back 0000000001", "[bad command]"),
+    ("back 1000000000", "[bad command]"),
+    ("back +1", "[bad command]"),
+    ("back -1", "[bad command]"),
+    ("back 1x", "[bad command]"),
+    ("back 0x1", "[bad command]"),
+    ("back /", "[bad command]"),
+    ("back :", "[bad command]"),
+];
+
+/// What has no form is bad.
+const BAD: &[Row] = &[
+    ("frob", "[bad command]"),
+    ("Quit", "[bad command]"),
+    ("QUIT", "[bad command]"),
+    ("quitt", "[bad command]"),
+    ("qui", "[bad command]"),
+    ("quit now", "[bad command]"),
+    ("quit 1", "[bad command]"),
+    ("chain", "[bad command]"),
+    ("insert 1", "[bad command]"),
+    ("insert 1 2 3", "[bad command]"),
+    ("insert x 5", "[bad command]"),
+    ("insert 1 x", "[bad command]"),
+    ("insert1 2", "[bad command]"),
+    ("delete 1", "[bad command]"),
+    ("replace 1 2", "[bad command]"),
+    ("replace 1 2 3 4", "[bad command]"),
+    ("sub 1 2", "[bad command]"),
+    ("sub 1 2 x", "[bad command]"),
+    ("back", "[bad command]"),
+    ("back 1 2", "[bad command]"),
+    ("text x", "[bad command]"),
+    ("list 1 2", "[bad command]"),
+    ("ready 1", "[bad command]"),
+    ("input", "[bad command]"),
+    ("break", "[bad command]"),
+    ("clear 1 2", "[bad command]"),
+    ("run 1 2", "[bad command]"),
+    ("go x", "[bad command]"),
+    ("step -1", "[bad command]"),
+    ("where 1", "[bad command]"),
+    ("kill 1", "[bad command]"),
+    ("1 insert", "[bad command]"),
+];
+
+/// An access is kept as it stands.
+const ACCESSES: &[Row] = &[
+    (
+        " show \t A [ 1 , -2 ] . b ^\t ",
+        "[show <A [ 1 , -2 ] . b ^>]",
+    ),
+    (
+        "show a[1][2,+3,c,'x','''']",
+        "[show <a[1][2,+3,c,'x','''']>]",
+    ),
+    ("show a(.1.)@", "[show <a(.1.)@>]"),
+    (
+        "show {the list} p^.next^{end}",
+        "[show <{the list} p^.next^{end}>]",
+    ),
+    ("show a[2147483647]\r", "[show <a[2147483647]>]"),
+];
+
+/// What is no access is bad.
+const NO_ACCESSES: &[Row] = &[
+    ("show", "[bad command]"),
+    ("show ", "[bad command]"),
+    ("show 1", "[bad command]"),
+    ("show{} x", "[bad command]"),
+    ("show x y", "[bad command]"),
+    ("show begin", "[bad command]"),
+    ("show x.", "[bad command]"),
+    ("show x.end", "[bad command]"),
+    ("show x.1", "[bad command]"),
+    ("show .x", "[bad command]"),
+    ("show x[]", "[bad command]"),
+    ("show x[1", "[bad command]"),
+    ("show x[1,]", "[bad command]"),
+    ("show x[1 2]", "[bad command]"),
+    ("show x]", "[bad command]"),
+    ("show x[-c]", "[bad command]"),
+    ("show x[- -1]", "[bad command]"),
+    ("show x['ab']", "[bad command]"),
+    ("show x[-'a']", "[bad command]"),
+    ("show x[a.b]", "[bad command]"),
+    ("show x[1..2]", "[bad command]"),
+    ("show x[2147483648]", "[bad command]"),
+    ("show x {", "[bad command]"),
+    ("show x;", "[bad command]"),
+    ("show x?", "[bad command]"),
+];
+
+#[test]
+fn lines_mean_their_commands(rt: HostRuntime) -> Result<(), Fail> {
+    let alloc = rt.alloc();
+    for rows in [FORMS, BLANKS, NUMBERS, BAD, ACCESSES, NO_ACCESSES] {
+        for (line, want) in rows {
+            assert_eq!(rt; read(alloc, line)?.as_str(), *want);
+        }
     }
     Ok(())
-}
-
-#[test]
-fn each_form_of_a_command_is_read(rt: HostRuntime) -> Result<(), Fail> {
-    are_read(
-        &rt,
-        rt.alloc(),
-        &[
-            ("insert 0 3", "[insert 0 3, wants 3]"),
-            ("insert 0 0", "[insert 0 0]"),
-            ("delete 1 2", "[delete 1 2]"),
-            ("replace 1 2 4", "[replace 1 2 4, wants 4]"),
-            ("sub 1 2 3", "[sub 1 2 3, wants 1]"),
-            ("back 7", "[back 7]"),
-            ("text", "[text]"),
-            ("text 2", "[text 2]"),
-            ("list", "[list]"),
-            ("list 3", "[list 3]"),
-            ("ready", "[ready]"),
-            ("input 5", "[input 5, wants 5]"),
-            ("break 9", "[break 9]"),
-            ("clear 9", "[clear 9]"),
-            ("run", "[run]"),
-            ("run 10", "[run 10]"),
-            ("go", "[go]"),
-            ("go 10", "[go 10]"),
-            ("step", "[step]"),
-            ("step 10", "[step 10]"),
-            ("show x", "[show <x>]"),
-            ("where", "[where]"),
-            ("kill", "[kill]"),
-            ("quit", "[quit]"),
-        ],
-    )
-}
-
-#[test]
-fn spaces_tabs_and_one_byte_13_are_no_words(rt: HostRuntime) -> Result<(), Fail> {
-    are_read(
-        &rt,
-        rt.alloc(),
-        &[
-            ("", "[nothing]"),
-            ("\r", "[nothing]"),
-            (" \t ", "[nothing]"),
-            (" \t\r", "[nothing]"),
-            ("\tinsert \t 1\t2 ", "[insert 1 2, wants 2]"),
-            ("quit\r", "[quit]"),
-            ("quit \r", "[quit]"),
-            ("quit\r\r", "[bad command]"),
-            ("quit\r ", "[bad command]"),
-            ("\rquit", "[bad command]"),
-            ("\u{c}quit", "[bad command]"),
-            ("list\u{c}", "[bad command]"),
-        ],
-    )
-}
-
-#[test]
-fn numbers_have_one_to_nine_digits(rt: HostRuntime) -> Result<(), Fail> {
-    are_read(
-        &rt,
-        rt.alloc(),
-        &[
-            ("back 007", "[back 7]"),
-            ("back 000000000", "[back 0]"),
-            ("input 999999999", "[input 999999999, wants 999999999]"),
-            ("back 0000000001", "[bad command]"),
-            ("back 1000000000", "[bad command]"),
-            ("back +1", "[bad command]"),
-            ("back -1", "[bad command]"),
-            ("back 1x", "[bad command]"),
-            ("back 0x1", "[bad command]"),
-            ("back /", "[bad command]"),
-            ("back :", "[bad command]"),
-        ],
-    )
-}
-
-#[test]
-fn what_has_no_form_is_bad(rt: HostRuntime) -> Result<(), Fail> {
-    are_read(
-        &rt,
-        rt.alloc(),
-        &[
-            ("frob", "[bad command]"),
-            ("Quit", "[bad command]"),
-            ("QUIT", "[bad command]"),
-            ("quitt", "[bad command]"),
-            ("qui", "[bad command]"),
-            ("quit now", "[bad command]"),
-            ("quit 1", "[bad command]"),
-            ("chain", "[bad command]"),
-            ("insert 1", "[bad command]"),
-            ("insert 1 2 3", "[bad command]"),
-            ("insert x 5", "[bad command]"),
-            ("insert 1 x", "[bad command]"),
-            ("insert1 2", "[bad command]"),
-            ("delete 1", "[bad command]"),
-            ("replace 1 2", "[bad command]"),
-            ("replace 1 2 3 4", "[bad command]"),
-            ("sub 1 2", "[bad command]"),
-            ("sub 1 2 x", "[bad command]"),
-            ("back", "[bad command]"),
-            ("back 1 2", "[bad command]"),
-            ("text x", "[bad command]"),
-            ("list 1 2", "[bad command]"),
-            ("ready 1", "[bad command]"),
-            ("input", "[bad command]"),
-            ("break", "[bad command]"),
-            ("clear 1 2", "[bad command]"),
-            ("run 1 2", "[bad command]"),
-            ("go x", "[bad command]"),
-            ("step -1", "[bad command]"),
-            ("where 1", "[bad command]"),
-            ("kill 1", "[bad command]"),
-            ("1 insert", "[bad command]"),
-        ],
-    )
-}
-
-#[test]
-fn accesses_are_kept_as_they_stand(rt: HostRuntime) -> Result<(), Fail> {
-    are_read(
-        &rt,
-        rt.alloc(),
-        &[
-            (
-                " show \t A [ 1 , -2 ] . b ^\t ",
-                "[show <A [ 1 , -2 ] . b ^>]",
-            ),
-            (
-                "show a[1][2,+3,c,'x','''']",
-                "[show <a[1][2,+3,c,'x','''']>]",
-            ),
-            ("show a(.1.)@", "[show <a(.1.)@>]"),
-            (
-                "show {the list} p^.next^{end}",
-                "[show <{the list} p^.next^{end}>]",
-            ),
-            ("show a[2147483647]\r", "[show <a[2147483647]>]"),
-        ],
-    )
-}
-
-#[test]
-fn what_is_no_access_is_bad(rt: HostRuntime) -> Result<(), Fail> {
-    are_read(
-        &rt,
-        rt.alloc(),
-        &[
-            ("show", "[bad command]"),
-            ("show ", "[bad command]"),
-            ("show 1", "[bad command]"),
-            ("show{} x", "[bad command]"),
-            ("show x y", "[bad command]"),
-            ("show begin", "[bad command]"),
-            ("show x.", "[bad command]"),
-            ("show x.end", "[bad command]"),
-            ("show x.1", "[bad command]"),
-            ("show .x", "[bad command]"),
-            ("show x[]", "[bad command]"),
-            ("show x[1", "[bad command]"),
-            ("show x[1,]", "[bad command]"),
-            ("show x[1 2]", "[bad command]"),
-            ("show x]", "[bad command]"),
-            ("show x[-c]", "[bad command]"),
-            ("show x[- -1]", "[bad command]"),
-            ("show x['ab']", "[bad command]"),
-            ("show x[-'a']", "[bad command]"),
-            ("show x[a.b]", "[bad command]"),
-            ("show x[1..2]", "[bad command]"),
-            ("show x[2147483648]", "[bad command]"),
-            ("show x {", "[bad command]"),
-            ("show x;", "[bad command]"),
-            ("show x?", "[bad command]"),
-        ],
-    )
 }
 
 // `quit` in a line of this length, filled up with spaces, and what stands at its end.

@@ -1,40 +1,11 @@
 // Small scripts and what a session writes for them, worked out by hand from the rules of docs/COMMANDS.md and never
 // taken from a program's output. The comment above a row, or above rows of one kind, says the rule that they show.
-//
-// Scripts at the limits are too long to stand here. A line is given by its length in bytes without its line end.
-// `WIDE` is a line of 4,096 spaces, which has 4,097 bytes with its line end; 63 of them have 258,111 bytes, and 64
-// have 262,208. `FULL` is 64 lines of 4,095 spaces: 64 * 4,096 = 262,144 bytes.
-//   `insert 0 1`, 4,096 bytes                    version 2
-//   `insert 0 1`, 4,097 bytes                    ? 4 line 1 too long
-//   `insert 0 1`, 4,096 bytes, byte 13: it is a
-//     byte of the line                           ? 4 line 1 too long
-//   `insert 0 2`, `a`, 4,097 bytes               ? 4 line 2 too long
-//   `insert 0 1`, 4,096 bytes; then
-//     `sub 1 4097 0`, `x`                        version 2, ? 4 line 1 too long
-//   `insert 0 64`, FULL                          version 2
-//   the same; then `insert 64 1`, no bytes       version 2, ? 3 text too long, 262145 bytes
-//   the same; then `sub 64 1 0`, `x`             version 2, ? 3 text too long, 262145 bytes
-//   `insert 0 64`, WIDE 64 times                 ? 3 text too long, 262208 bytes
-// The order of the refusals:
-//   25 before 4: `insert 0 2`, 4,097 bytes       ? 25 script ended
-//   2 before 4: `insert 1 1`, 4,097 bytes        ? 2 out of range, last is 0
-//   2 before 3: `insert 1 64`, WIDE 64 times     ? 2 out of range, last is 0
-//   4 before 3: `insert 0 65`, WIDE 64 times,
-//     4,097 bytes                                ? 4 line 65 too long
-//   4,095 times `back 1`: the versions 2 to 4,096; then
-//     `back 1`                                   ? 5 versions full
-//     5 before 1: `back 4097`                    ? 5 versions full
-//     5 before 2: `delete 1 1`                   ? 5 versions full
-//     5 before 4: `insert 0 1`, 4,097 bytes      ? 5 versions full
-//     25 before 5: `insert 0 1`                  ? 25 script ended
-//     `text 4097` makes no version               ? 1 no version 4097
-//     `text 4096`                                version 4096, 0 lines
+// Scripts at the limits are too long to stand here: they are in limits.rt.
 
-/// A script, and what `serial` writes for it.
-pub(crate) type Row = (&'static [u8], &'static str);
+use crate::tests::Row;
 
 /// Lines of a script: words between spaces and tabs; a byte 13 at the end of a command line is dropped once.
-pub(crate) const LINES: &[Row] = &[
+const LINES: &[Row] = &[
     // no line at all
     (b"", ""),
     // a line without a word does nothing
@@ -82,7 +53,7 @@ pub(crate) const LINES: &[Row] = &[
 ];
 
 /// Command lines have at most 255 bytes, without the byte 13 at their end; taken lines may have more.
-pub(crate) const LENGTHS: &[Row] = &[
+const LENGTHS: &[Row] = &[
     // 255 spaces, and 256
     (
         b"                                                                                                                                                                                                                                                               \n",
@@ -132,7 +103,7 @@ pub(crate) const LENGTHS: &[Row] = &[
 ];
 
 /// A number is 1 to 9 digits; a command has just the numbers of its form.
-pub(crate) const NUMBERS: &[Row] = &[
+const NUMBERS: &[Row] = &[
     // leading zeros do not count, and the value is told
     (b"back 000000001\n", "version 2\n"),
     (b"back 007\n", "? 1 no version 7\n"),
@@ -170,7 +141,7 @@ pub(crate) const NUMBERS: &[Row] = &[
 ];
 
 /// Each edit makes a new version of the current one, the last one made.
-pub(crate) const EDITS: &[Row] = &[
+const EDITS: &[Row] = &[
     // `insert` before the first line, between two and after the last
     (
         b"insert 0 1\na\ntext\n",
@@ -256,7 +227,7 @@ pub(crate) const EDITS: &[Row] = &[
 ];
 
 /// `sub` puts the taken line in place of bytes of one line.
-pub(crate) const SUBSTITUTIONS: &[Row] = &[
+const SUBSTITUTIONS: &[Row] = &[
     // before the first column, and at the column just past the end
     (
         b"insert 0 1\nabc\nsub 1 1 0\nx\ntext\n",
@@ -339,7 +310,7 @@ pub(crate) const SUBSTITUTIONS: &[Row] = &[
 ];
 
 /// Versions count from 1, and none is ever lost.
-pub(crate) const VERSIONS: &[Row] = &[
+const VERSIONS: &[Row] = &[
     // `back` makes a new version
     (
         b"insert 0 1\na\nback 1\ntext\n",
@@ -377,7 +348,7 @@ pub(crate) const VERSIONS: &[Row] = &[
 ];
 
 /// `list` writes the listing of a version.
-pub(crate) const LISTINGS: &[Row] = &[
+const LISTINGS: &[Row] = &[
     // the empty text ends at 1:1
     (b"list\n", "not built at 1:1\n"),
     // the empty program
@@ -413,7 +384,7 @@ pub(crate) const LISTINGS: &[Row] = &[
 ];
 
 /// `input` takes lines, and makes no version.
-pub(crate) const INPUTS: &[Row] = &[
+const INPUTS: &[Row] = &[
     (b"input 2\na\nb\n", "input 2 lines\n"),
     (b"input 1\na", "input 1 lines\n"),
     (b"input 0\ntext\n", "input 0 lines\nversion 1, 0 lines\n"),
@@ -430,7 +401,7 @@ pub(crate) const INPUTS: &[Row] = &[
 ];
 
 /// A refused command writes one line and changes nothing; its lines are taken.
-pub(crate) const REFUSALS: &[Row] = &[
+const REFUSALS: &[Row] = &[
     // in an empty text the last line is 0
     (
         b"insert 1 0\ndelete 1 1\nreplace 1 1 0\nsub 1 1 0\n\n",
@@ -477,7 +448,7 @@ pub(crate) const REFUSALS: &[Row] = &[
 ];
 
 /// The end of the script, or `quit`.
-pub(crate) const ENDS: &[Row] = &[
+const ENDS: &[Row] = &[
     // the end before the lines that a command takes
     (b"insert 0 1", "? 25 script ended\n"),
     (b"insert 0 1\n", "? 25 script ended\n"),
@@ -514,7 +485,7 @@ pub(crate) const ENDS: &[Row] = &[
 ];
 
 /// Commands of later stages: their form is tested, and nothing else.
-pub(crate) const LATER: &[Row] = &[
+const LATER: &[Row] = &[
     (b"ready\n", "? 90 not built\n"),
     (b"run\nrun 5\n", "? 90 not built\n? 90 not built\n"),
     (b"go\ngo 5\n", "? 90 not built\n? 90 not built\n"),
@@ -567,4 +538,19 @@ pub(crate) const LATER: &[Row] = &[
         b"delete 1 1\nback 7\nfrob\ngo\ntext\n",
         "? 2 out of range, last is 0\n? 1 no version 7\n? 20 bad command\n? 90 not built\nversion 1, 0 lines\n",
     ),
+];
+
+/// All tables.
+pub(crate) const TABLES: [&[Row]; 11] = [
+    LINES,
+    LENGTHS,
+    NUMBERS,
+    EDITS,
+    SUBSTITUTIONS,
+    VERSIONS,
+    LISTINGS,
+    INPUTS,
+    REFUSALS,
+    ENDS,
+    LATER,
 ];

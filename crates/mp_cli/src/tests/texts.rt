@@ -1,32 +1,12 @@
 // Small texts and their listings, worked out by hand from the rules of docs/LANGUAGE.md and never taken from a
 // program's output. The comment above a row, or above rows of one kind, says the rule that they show. Where no column
 // is explained: `program ` has 8 bytes, `program p; ` 11, `program p; begin ` 17 and `program p; begin end.` 21.
-//
-// Texts at the limits are too long to stand here. A line is given by its first bytes and its length in bytes without
-// its line end, to which spaces fill it up. `FULL` is 64 lines of 4,095 bytes, each ended, the first of them
-// `program p; begin end.` and the others blank: 64 * 4,096 = 262,144 bytes.
-//   FULL                                                                   accepted
-//   FULL without its last line end, 262,143 bytes: the end counts          accepted
-//   FULL without its last line end, and one space: 262,144 bytes that
-//     lack an end count as 262,145                                         ? 3 text too long, 262145 bytes
-//   FULL and one line end, a last line of no bytes: 262,145 bytes          ? 3 text too long, 262145 bytes
-//   FULL, whose first byte is `?` in place of `p`                          1:1 101 bad character
-//   the same and one line end: no error of a text past a limit is listed   ? 3 text too long, 262145 bytes
-//   one line, `program p; begin end.`, of 4,096 bytes, ended               accepted
-//   the same line, not ended: its end is no byte of the line               accepted
-//   one line, `program p; begin end.`, of 4,097 bytes, ended               ? 4 line 1 too long
-//   the same line, not ended                                               ? 4 line 1 too long
-//   `program p; begin end.` in 4,096 bytes, carriage return, line end:
-//     the carriage return is a byte of the line                            ? 4 line 1 too long
-//   `program p; begin end.`, a line end, 4,097 spaces                      ? 4 line 2 too long
-//   4,095 spaces and `?`                                                   1:4096 101 bad character
-//   `?` and 4,096 spaces                                                   ? 4 line 1 too long
+// Texts at the limits are too long to stand here: they are in limits.rt.
 
-/// A text, and what `list` writes of it.
-pub(crate) type Row = (&'static [u8], &'static str);
+use crate::tests::Row;
 
 /// Programs of this stage, and the first token that departs from `program`, an identifier, `;`, `begin`, `end`, `.`.
-pub(crate) const PROGRAMS: &[Row] = &[
+const PROGRAMS: &[Row] = &[
     // the six tokens
     (b"program p; begin end.", "accepted\n"),
     // no token at all: the end of a text of no lines is 1:1
@@ -70,7 +50,7 @@ pub(crate) const PROGRAMS: &[Row] = &[
 ];
 
 /// Words: a letter, then letters and digits, the longest; 35 of them are word-symbols.
-pub(crate) const WORDS: &[Row] = &[
+const WORDS: &[Row] = &[
     // each of the 35 word-symbols is no identifier
     (b"program and; begin end.", "not built at 1:9\n"),
     (b"program array; begin end.", "not built at 1:9\n"),
@@ -137,7 +117,7 @@ pub(crate) const WORDS: &[Row] = &[
 ];
 
 /// Symbols: each is a token, also in its other spelling, and the longest that stands there.
-pub(crate) const SYMBOLS: &[Row] = &[
+const SYMBOLS: &[Row] = &[
     // each symbol is a token that no identifier is
     (b"program +", "not built at 1:9\n"),
     (b"program -", "not built at 1:9\n"),
@@ -183,7 +163,7 @@ pub(crate) const SYMBOLS: &[Row] = &[
 ];
 
 /// Numbers: digits; with a fraction or an exponent error 106, with a letter after them 105, past maxint 107.
-pub(crate) const NUMBERS: &[Row] = &[
+const NUMBERS: &[Row] = &[
     // digits are a number
     (b"0", "not built at 1:1\n"),
     (b"program 7", "not built at 1:9\n"),
@@ -285,7 +265,7 @@ pub(crate) const NUMBERS: &[Row] = &[
 ];
 
 /// Strings: a quote, elements, a quote; an element is two quotes or another byte of the line.
-pub(crate) const STRINGS: &[Row] = &[
+const STRINGS: &[Row] = &[
     // one element and two
     (b"program 'a'", "not built at 1:9\n"),
     (b"program 'ab'", "not built at 1:9\n"),
@@ -340,7 +320,7 @@ pub(crate) const STRINGS: &[Row] = &[
 ];
 
 /// Comments: `{` or `(*`, up to the next `}` or `*)`, in any pairing.
-pub(crate) const COMMENTS: &[Row] = &[
+const COMMENTS: &[Row] = &[
     // a comment is a separator
     (b"{ a }program{ b }p(* c *); begin end.", "accepted\n"),
     (b"pro{}gram p; begin end.", "not built at 1:1\n"),
@@ -397,7 +377,7 @@ pub(crate) const COMMENTS: &[Row] = &[
 ];
 
 /// Bytes that begin no item, and `/`; the separators beside them.
-pub(crate) const BAD_BYTES: &[Row] = &[
+const BAD_BYTES: &[Row] = &[
     // the bytes between space and 127 that begin no item, each an item by itself
     (
         b"!\"#$%&?\\_`|}~",
@@ -440,7 +420,7 @@ pub(crate) const BAD_BYTES: &[Row] = &[
 ];
 
 /// Several errors, in the order of the text, and places on later lines.
-pub(crate) const PLACES: &[Row] = &[
+const PLACES: &[Row] = &[
     // a real number and a number that a letter touches, on two lines
     (
         b"program p;\ntype t = 1..3; u = 1.5;\nvar x: 12ab; begin end.\n",
