@@ -55,62 +55,51 @@ fn are_replied(rt: &impl Abort, alloc: Global, rows: &[Row]) -> Result<(), Fail>
     Ok(())
 }
 
+// One session's commands.
+const REPLIES: &[Row] = &[
+    ("text\n", "version 1, 0 lines\n"),
+    ("insert 0 2\nprogram p;\nbegin end.\n", "version 2\n"),
+    ("text\n", "version 2, 2 lines\nprogram p;\nbegin end.\n"),
+    ("list\n", "accepted\n"),
+    ("list 1\n", "not built at 1:1\n"),
+    ("sub 1 9 1\n?\n", "version 3\n"),
+    ("list\n", "1:9 101 bad character\n"),
+    ("delete 3 3\n", "? 2 out of range, last is 2\n"),
+    ("replace 2 2 1\nbegin x end.\n", "version 4\n"),
+    ("back 2\n", "version 5\n"),
+    ("text\n", "version 5, 2 lines\nprogram p;\nbegin end.\n"),
+    ("text 3\n", "version 3, 2 lines\nprogram ?;\nbegin end.\n"),
+    ("list 3\n", "1:9 101 bad character\n"),
+    ("text 6\n", "? 1 no version 6\n"),
+    ("list 0\n", "? 1 no version 0\n"),
+    ("back 7\n", "? 1 no version 7\n"),
+    ("input 2\n5\n\n", "input 2 lines\n"),
+    ("run\n", "? 90 not built\n"),
+    ("\n", ""),
+    ("delete 1 1\n", "version 6\n"),
+    ("list\n", "not built at 1:1\n"),
+];
+
 #[test]
 fn commands_have_their_replies(rt: HostRuntime) -> Result<(), Fail> {
-    are_replied(
-        &rt,
-        rt.alloc(),
-        &[
-            ("text\n", "version 1, 0 lines\n"),
-            ("insert 0 2\nprogram p;\nbegin end.\n", "version 2\n"),
-            ("text\n", "version 2, 2 lines\nprogram p;\nbegin end.\n"),
-            ("list\n", "accepted\n"),
-            ("list 1\n", "not built at 1:1\n"),
-            ("sub 1 9 1\n?\n", "version 3\n"),
-            ("list\n", "1:9 101 bad character\n"),
-            ("delete 3 3\n", "? 2 out of range, last is 2\n"),
-            ("replace 2 2 1\nbegin x end.\n", "version 4\n"),
-            ("back 2\n", "version 5\n"),
-            ("text\n", "version 5, 2 lines\nprogram p;\nbegin end.\n"),
-            ("text 3\n", "version 3, 2 lines\nprogram ?;\nbegin end.\n"),
-            ("list 3\n", "1:9 101 bad character\n"),
-            ("text 6\n", "? 1 no version 6\n"),
-            ("list 0\n", "? 1 no version 0\n"),
-            ("back 7\n", "? 1 no version 7\n"),
-            ("input 2\n5\n\n", "input 2 lines\n"),
-            ("run\n", "? 90 not built\n"),
-            ("\n", ""),
-            ("delete 1 1\n", "version 6\n"),
-            ("list\n", "not built at 1:1\n"),
-        ],
-    )
+    are_replied(&rt, rt.alloc(), REPLIES)
 }
 
 #[test]
-fn quit_writes_nothing(rt: HostRuntime) -> Result<(), Fail> {
+fn a_failed_write_is_told_and_quit_makes_none(rt: HostRuntime) -> Result<(), Fail> {
     let alloc = rt.alloc();
-    let mut session = Session::serial(alloc)?;
-    // The first write would fail.
-    let mut sink = MemSink::new(alloc, Vec::from_slice(alloc, &[1])?)?;
-    let asked = whole(alloc, "quit\n")?;
-    assert_eq!(rt; session.obey(asked, &mut sink), Ok(Turn::Quit));
-    assert_eq!(rt; sink.bytes(), Some(b"".as_slice()));
-    session.finish();
-    Ok(())
-}
-
-#[test]
-fn a_failed_write_is_told(rt: HostRuntime) -> Result<(), Fail> {
-    let alloc = rt.alloc();
-    let mut session = Session::serial(alloc)?;
-    let mut sink = MemSink::new(alloc, Vec::from_slice(alloc, &[1])?)?;
-    let asked = whole(alloc, "text\n")?;
-    assert_eq!(rt;
-        session.obey(asked, &mut sink),
-        Err(SessionError::WriteFault)
-    );
-    assert_eq!(rt; sink.bytes(), Some(b"".as_slice()));
-    session.finish();
+    for (line, want) in [
+        ("text\n", Err(SessionError::WriteFault)),
+        ("quit\n", Ok(Turn::Quit)),
+    ] {
+        let mut session = Session::serial(alloc)?;
+        // The first write fails.
+        let mut sink = MemSink::new(alloc, Vec::from_slice(alloc, &[1])?)?;
+        let asked = whole(alloc, line)?;
+        assert_eq!(rt; session.obey(asked, &mut sink), want);
+        assert_eq!(rt; sink.bytes(), Some(b"".as_slice()));
+        session.finish();
+    }
     Ok(())
 }
 
@@ -139,21 +128,6 @@ fn texts_are_listed_outside_a_session(rt: HostRuntime) -> Result<(), Fail> {
     ] {
         let written = listed(alloc, text.as_bytes())?;
         assert_eq!(rt; written.get(), want.as_bytes(), "{text:?}");
-    }
-    Ok(())
-}
-
-#[test]
-fn a_line_of_4097_bytes_is_refused(rt: HostRuntime) -> Result<(), Fail> {
-    let alloc = rt.alloc();
-    for (count, want) in [(4096, "accepted\n"), (4097, "? 4 line 2 too long\n")] {
-        let mut text = Vec::from_slice(alloc, b"program p; begin end.\n")?;
-        for _ in 0..count {
-            text.push(b' ')?;
-        }
-        text.push(b'\n')?;
-        let written = listed(alloc, text.as_slice())?;
-        assert_eq!(rt; written.get(), want.as_bytes(), "{count}");
     }
     Ok(())
 }

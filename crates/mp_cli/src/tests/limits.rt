@@ -44,6 +44,18 @@ pub(crate) const TEXTS: &[Long] = &[
     // a later line
     (b"\n", &[(1, 4096)], b"\n", "not built at 3:1\n"),
     (b"\n", &[(1, 4097)], b"\n", "? 4 line 2 too long\n"),
+    (
+        b"program p; begin end.\n",
+        &[(1, 4096)],
+        b"\n",
+        "accepted\n",
+    ),
+    (
+        b"program p; begin end.\n",
+        &[(1, 4097)],
+        b"\n",
+        "? 4 line 2 too long\n",
+    ),
     // 262,144 bytes, also where the last line lacks its end: that counts
     (
         b"program p; begin end.",
