@@ -3,6 +3,7 @@ use Rattle.std.specs.Io.KnownBytes.{Consumes}
 use Rattle.mp_base.specs.declared.limits.TheConstants.{SCRIPT_LIMIT}
 use Rattle.mp_edge.specs.Told.{Grows}
 use Rattle.mp_cli.specs.Talk.{IsOpen, standing}
+use Rattle.mp_cli.specs.declared.reading.TheConstants.{BUFFER_SIZE}
 use Rattle.mp_cli.proofs.ScriptLemmas.{Reached}
 use Rattle.mp_cli.proofs.scripts.obey_script.Given as goal
 
@@ -10,7 +11,7 @@ use Rattle.mp_cli.proofs.scripts.obey_script.Given as goal
 abbrev pub invariant-reads : goal.invariant-reads
 invariant-reads g l = record {
   within : l.taken ≤ SCRIPT_LIMIT;
-  buffer : length l.buffer ≡ 4096;
+  buffer : length l.buffer ≡ BUFFER_SIZE;
   waits : IsOpen l.waiting;
   room : l.session.obeyed + length l.lines ≤ l.taken;
   source_later : g.S.Source.faults l.fn.source ≤ g.S.Source.faults l.source;
