@@ -121,9 +121,14 @@ fn texts_and_lines_have_limits(rt: HostRuntime) -> Result<(), Fail> {
 }
 
 #[test]
-fn a_session_has_at_most_4096_versions(rt: HostRuntime) -> Result<(), Fail> {
+fn refusals_come_in_order(rt: HostRuntime) -> Result<(), Fail> {
+    have_limits(&rt, rt.alloc(), "serial", limits::ORDER)
+}
+
+#[test]
+fn versions_that_are_full_are_told_first(rt: HostRuntime) -> Result<(), Fail> {
     let alloc = rt.alloc();
-    for (front, lines, back, written) in limits::FULL {
+    for (front, lines, back, written) in limits::FULL_ORDER {
         let mut script = Vec::new(alloc);
         for _ in 1..4096 {
             script.extend_from_slice(b"back 1\n")?;

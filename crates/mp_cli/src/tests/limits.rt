@@ -97,7 +97,7 @@ pub(crate) const TEXTS: &[Long] = &[
     ),
 ];
 
-/// Scripts. The bytes 13 of taken lines count.
+/// Scripts at the limits of texts and lines. The bytes 13 of taken lines count.
 pub(crate) const SCRIPTS: &[Long] = &[
     (b"insert 0 1\n", &[(1, 4096)], b"\n", "version 2\n"),
     (
@@ -143,22 +143,57 @@ pub(crate) const SCRIPTS: &[Long] = &[
         b"\n",
         "? 3 text too long, 262208 bytes\n",
     ),
-    // the end of the script is told before a line that is too long, and so is a number out of range
+    // one refusal after another
+    (
+        b"delete 1 1\nback 7\nfrob\ntext\ninsert 0 1\n",
+        &[(1, 4097)],
+        b"\ntext\n",
+        "? 2 out of range, last is 0\n? 1 no version 7\n? 20 bad command\nversion 1, 0 lines\n? 4 line 1 too long\nversion 1, 0 lines\n",
+    ),
+];
+
+/// The order of the refusals 20, 25, 2, 4, 3: scripts for which two of them hold.
+pub(crate) const ORDER: &[Long] = &[
+    // 20 before 25
+    (b"insert 0 1 x", &[], b"", "? 20 bad command\n"),
+    (b"insert 0 1000000000\n", &[], b"", "? 20 bad command\n"),
+    // 25 before 2, 4 and 3
+    (b"insert 9 1\n", &[], b"", "? 25 script ended\n"),
     (b"insert 0 2\n", &[(1, 4097)], b"\n", "? 25 script ended\n"),
+    (
+        b"insert 0 65\n",
+        &[(64, 4096)],
+        b"\n",
+        "? 25 script ended\n",
+    ),
+    // 2 before 4 and 3
     (
         b"insert 1 1\n",
         &[(1, 4097)],
         b"\n",
         "? 2 out of range, last is 0\n",
     ),
-    // that is told before a text that is too long
+    (
+        b"sub 1 1 0\n",
+        &[(1, 4097)],
+        b"\n",
+        "? 2 out of range, last is 0\n",
+    ),
     (
         b"insert 1 64\n",
         &[(64, 4096)],
         b"\n",
         "? 2 out of range, last is 0\n",
     ),
-    // so is a line that is too long
+    // of `sub` the line before the column, and that before the count
+    (b"sub 0 0 9\nx\n", &[], b"", "? 2 out of range, last is 0\n"),
+    (
+        b"insert 0 1\nabc\nsub 1 0 9\nx\n",
+        &[],
+        b"",
+        "version 2\n? 2 out of range, last is 4\n",
+    ),
+    // 4 before 3
     (
         b"insert 0 64\n",
         &[(64, 4097)],
@@ -171,32 +206,30 @@ pub(crate) const SCRIPTS: &[Long] = &[
         b"\n",
         "? 4 line 65 too long\n",
     ),
-    // one refusal after another
-    (
-        b"delete 1 1\nback 7\nfrob\ntext\ninsert 0 1\n",
-        &[(1, 4097)],
-        b"\ntext\n",
-        "? 2 out of range, last is 0\n? 1 no version 7\n? 20 bad command\nversion 1, 0 lines\n? 4 line 1 too long\nversion 1, 0 lines\n",
-    ),
 ];
 
-/// Behind a script that made 4,096 versions, each of no lines. Versions that are full are told before each other cause
-/// but the script's end.
-pub(crate) const FULL: &[Long] = &[
+/// The order of 25, 5, 1, 2, 4, 3, behind a script that made 4,096 versions, each of no lines.
+pub(crate) const FULL_ORDER: &[Long] = &[
     (
         b"back 1\n",
         &[],
         b"text 4097\ntext 4096\n",
         "? 5 versions full\n? 1 no version 4097\nversion 4096, 0 lines\n",
     ),
-    (
-        b"back 4097\ndelete 1 1\ninsert 0 1\nx\n",
-        &[],
-        b"",
-        "? 5 versions full\n? 5 versions full\n? 5 versions full\n",
-    ),
-    (b"insert 0 1\n", &[(1, 4097)], b"\n", "? 5 versions full\n"),
+    // 25 before 5
     (b"insert 0 1\n", &[], b"", "? 25 script ended\n"),
+    // 5 before 1, 2, 4 and 3
+    (b"back 4097\n", &[], b"", "? 5 versions full\n"),
+    (b"delete 1 1\n", &[], b"", "? 5 versions full\n"),
+    (b"insert 0 1\n", &[(1, 4097)], b"\n", "? 5 versions full\n"),
+    (
+        b"insert 0 64\n",
+        &[(64, 4096)],
+        b"\n",
+        "? 5 versions full\n",
+    ),
+    // and where nothing else is wrong
+    (b"insert 0 1\nx\n", &[], b"", "? 5 versions full\n"),
 ];
 
 /// Words over so many spaces, how the call ends, and what it writes.
