@@ -3,7 +3,7 @@ use Rattle.std.proofs.lemmas.List.{length-append, length-take, length-drop, take
 use Rattle.mp_base.specs.declared.limits.TheConstants.{SCRIPT_LIMIT}
 use Rattle.mp_edge.proofs.ToldLemmas.{grows_none, grows_more, consumes_none, consumes_more}
 use Rattle.mp_session.specs.Replies.{View}
-use Rattle.mp_cli.specs.Talk.{standing}
+use Rattle.mp_cli.specs.Talk.{last_bytes, standing}
 use Rattle.mp_cli.proofs.ScriptLemmas.{reached_none, led, reached_more, quit_more, quit_all, quits, written_so_far, front_all, part_more, ended, part_end, grows_back, consumes_back, no_quit, cut_count, last_read, last_unanswered, last_empty, last_nothing}
 use Rattle.mp_cli.proofs.scripts.obey_script.Goals as goal
 
@@ -26,15 +26,16 @@ pub returns-in-Ok-clause-met : goal.returns-in-Ok-clause-met
 returns-in-Ok-clause-met g c =
     let h = c.reads.invariant.run in
     let stand = standing c.reads.session.state c.reads.waiting in
+    let closed = last_bytes stand c.reads.lines in
     record {
       taken = h.0;
-      written = h.1 ++ _;
+      written = h.1 ++ closed;
       takes = grows_back _ _ h.0 h.2 _ c.in-End.ensures.taken;
       leaves = consumes_back _ _ h.0 h.3 _ c.in-End.ensures.left;
-      writes = grows_more _ _ _ h.1 _ h.4 c.in-Ok.ensures.ok;
+      writes = grows_more _ _ _ h.1 closed h.4 c.in-Ok.ensures.ok;
       limit = omega (arith, h.5, c.reads.invariant.within);
       holds = (sym (ended h.0 h.1 c.reads.lines stand h.6), inl (c.in-End.ensures.end refl, omega (arith, h.5)));
-      last_read = last_empty h.0 h.1 c.reads.lines _ stand h.6;
+      last_read = last_empty h.0 h.1 c.reads.lines closed stand h.6;
     }
 
 pub returns-in-Err-WriteFault-clause-met : goal.returns-in-Err-WriteFault-clause-met
@@ -101,6 +102,7 @@ reads-preserved g c =
     let r = rw take-append-le at c.in-Ok-feed.ensures.rest in
     let n = rw w at (rw c.in-Ok-On.field-0-is at c.in-Ok-On.ensures.now) in
     let b = rw w at c.in-Ok-On.ensures.written in
+    let replied = (led stand c.reads.lines piece).bytes in
     record {
       within = omega (arith, lt, c.read.auto.buf, length-take {A = ℕ}, c.min-room.ensures);
       buffer = omega (arith, c.read.auto.buf, length-take {A = ℕ}, length-drop {A = ℕ}, length-append {A = ℕ}, c.min-room.ensures, c.reads.invariant.buffer);
@@ -114,10 +116,10 @@ reads-preserved g c =
       sink_quiet = λ q. let before = c.reads.invariant.sink_quiet q in let now = c.in-Ok-On.ensures.quiet before.0 in (now.0, now.1 ∙ before.1);
       run = (
         h.0 ++ piece,
-        h.1 ++ (led stand c.reads.lines piece).bytes,
+        h.1 ++ replied,
         grows_more _ _ _ h.0 piece h.2 c.in-Bytes.ensures.taken,
         consumes_more _ _ _ h.0 piece h.3 c.in-Bytes.ensures.left,
-        grows_more _ _ _ h.1 _ h.4 b,
+        grows_more _ _ _ h.1 replied h.4 b,
         omega (arith, h.5, lt, length-append h.0 piece, length-take c.in-Bytes.count c.read.new.buf),
         reached_more h.0 h.1 c.reads.lines piece stand (standing c.take_lines.new.session.state c.take_lines.new.waiting) h.6 n r,
       );
@@ -134,16 +136,17 @@ returns-in-Ok-Quit-clause-met g c =
     let w = rw take-append-le at c.in-Ok-feed.ensures.lines in
     let n = rw w at (rw c.in-Ok-Quit.field-0-is at c.in-Ok-Quit.ensures.now) in
     let b = rw w at c.in-Ok-Quit.ensures.written in
+    let replied = (led stand c.reads.lines piece).bytes in
     let q = quit_more h.0 h.1 c.reads.lines piece stand h.6 n in
     record {
       taken = h.0 ++ piece;
-      written = h.1 ++ (led stand c.reads.lines piece).bytes;
+      written = h.1 ++ replied;
       takes = grows_more _ _ _ h.0 piece h.2 c.in-Bytes.ensures.taken;
       leaves = consumes_more _ _ _ h.0 piece h.3 c.in-Bytes.ensures.left;
-      writes = grows_more _ _ _ h.1 _ h.4 b;
+      writes = grows_more _ _ _ h.1 replied h.4 b;
       limit = full;
-      holds = (quit_all (h.0 ++ piece) (h.1 ++ (led stand c.reads.lines piece).bytes) q, inr (quits (h.0 ++ piece) (h.1 ++ (led stand c.reads.lines piece).bytes) q));
-      last_read = last_read h.0 h.1 c.reads.lines piece (led stand c.reads.lines piece).bytes stand h.6 short;
+      holds = (quit_all (h.0 ++ piece) (h.1 ++ replied) q, inr (quits (h.0 ++ piece) (h.1 ++ replied) q));
+      last_read = last_read h.0 h.1 c.reads.lines piece replied stand h.6 short;
     }
 
 pub returns-in-Err-WriteFault-take_lines-clause-met : goal.returns-in-Err-WriteFault-take_lines-clause-met

@@ -37,8 +37,10 @@ pub returns-in-Ok-Quit-clause-written : goal.returns-in-Ok-Quit-clause-written
 returns-in-Ok-Quit-clause-written g c =
     let h = c.loop-line.invariant.told in
     let s = c.in-Some.ensures.steps in
+    let stand = standing c.loop-line.session.state c.loop-line.waiting in
+    let replied = (step stand c.in-Some.line).bytes in
     let n = rw c.in-Ok-Quit.field-0-is at c.in-Ok-Quit.ensures.now in
-    rw (line_quits h.0 (standing c.loop-line.session.state c.loop-line.waiting) c.in-Some.line (into_iter_items c.next.new.self) h.2 s.0 n) (grows_more _ _ _ h.0 _ h.1 c.in-Ok-Quit.ensures.written)
+    rw (line_quits h.0 stand c.in-Some.line (into_iter_items c.next.new.self) h.2 s.0 n) (grows_more _ _ _ h.0 replied h.1 c.in-Ok-Quit.ensures.written)
 
 pub returns-in-Err-clause-partly : goal.returns-in-Err-clause-partly
 returns-in-Err-clause-partly g c =
