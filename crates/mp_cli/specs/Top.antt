@@ -70,9 +70,9 @@ abbrev pub HoldsFor : Option Form → Status → List ℕ → List ℕ → Optio
 HoldsFor None ended taken written left = (ended ≡ status.Words) × (taken ≡ []) × (written ≡ [])
 HoldsFor (Some asked) ended taken written left = Holds asked ended taken written left
 
--- The last read of a script gave at most 4,096 bytes. What was taken before it holds no whole `quit` line, and all that
--- is answered of that was written: no read follows one that brought the end of a `quit` line, or that brought a command
--- whose reply was not written.
+-- What was taken of a script is some bytes and then those of the last read, at most 4,096. The first hold no whole
+-- `quit` line, and all that is answered of them was written. So nothing is read behind a `quit` line, or behind a
+-- command whose reply was not written, but for bytes that one read could have given.
 pub record LastRead (taken written : List ℕ) : Type 0 where
   pub before : List ℕ
   pub given : List ℕ
@@ -106,7 +106,7 @@ pub record QuitsInTime (script : List ℕ) : Type 0 where
   pub few : length front ≤ SCRIPT_LIMIT
   pub quits : Quits front
 
--- a text, or a script up to its first `quit`, has fewer bytes than it may have
+-- there are fewer bytes than a script may have, or a `quit` line of the script stands among so many
 abbrev pub IsWithinLimit : Form → List ℕ → Type 0
 IsWithinLimit form.List bytes = length bytes < SCRIPT_LIMIT
 IsWithinLimit form.Serial bytes = (length bytes < SCRIPT_LIMIT) ⊎ QuitsInTime bytes
