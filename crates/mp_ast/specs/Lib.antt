@@ -1,1 +1,10 @@
 pub mod Words
+pub mod Rules
+pub mod LeafGrammar
+pub mod ExpressionGrammar
+pub mod StatementGrammar
+pub mod TypeGrammar
+pub mod HeadingGrammar
+pub mod BlockGrammar
+pub mod Programs
+pub mod FirstError

@@ -1,18 +1,35 @@
-//! The data of the language: what the text is made of.
+//! The data of the language: what a text is made of.
 //!
-//! The crate holds the tokens of a text with their kinds and places, the lexical errors, and the 35 word-symbols with
-//! their spellings (ISO 7185, 6.1). It is data alone: it never lexes, parses or prints. It promises how each
-//! word-symbol is written, and that its lists are lists. It stands on `mp_base`.
+//! The crate holds the tokens of a text with their kinds and places, the lexical errors, the 35 word-symbols with
+//! their spellings (ISO 7185, 6.1), and the syntax trees of programs (6.2 to 6.10). Its `specs/` say which tree a list
+//! of tokens has, with which tokens a program begins, and where a list of tokens first goes wrong. It is data alone: it
+//! never lexes, parses or prints. It promises how each word-symbol is written, that its lists are lists, and that a
+//! block's own tree has at most 262,144 tokens. It stands on `mp_base`.
 #![tactic(auto)]
 
+mod blocks;
 mod errors;
+mod expressions;
+mod headings;
+mod leaves;
 mod lexed;
+mod statements;
 mod symbols;
 mod tokens;
+mod types;
 mod words;
 
+pub use blocks::{
+    Block, BlockTree, ConstantDefinition, Declaration, DeclaredBody, ProgramHeading, StatementPart,
+    Tree, TypeDefinition,
+};
 pub use errors::{LexError, LexErrors};
+pub use expressions::{Access, Actual, Expr, Member, Operation, Operator, Selector, Width};
+pub use headings::{FormalSection, HeadingKind, HeadingTree};
+pub use leaves::{CharacterString, Constant, Identifier, Number, Sign, SignKind};
 pub use lexed::Lexed;
+pub use statements::{Arm, Direction, ForHead, Statement};
 pub use symbols::Symbol;
 pub use tokens::{Token, TokenKind, Tokens};
+pub use types::{Denoter, Index, Section, Variant, VariantPart};
 pub use words::WordSymbol;
