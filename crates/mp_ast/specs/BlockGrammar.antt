@@ -36,11 +36,11 @@ pub record Limits : Type 0 where
 -- ---- the parts of a block, where at most so many openers stand open
 
 -- a part that may be left out
-abbrev part : {A : Type 0} → Rule (List A) → Rule (List A)
+abbrev pub part : {A : Type 0} → Rule (List A) → Rule (List A)
 part r = r <|> gives []
 
 -- ["label" number {"," number} ";"]
-abbrev label_part : Rule (List Number)
+abbrev pub label_part : Rule (List Number)
 label_part = do
   word w.Label
   labels ← separated (symbol s.Comma) number
@@ -48,14 +48,14 @@ label_part = do
   gives labels
 
 -- one after another, at least one
-abbrev some : {A : Type 0} → Rule A → Rule (List A)
+abbrev pub some : {A : Type 0} → Rule A → Rule (List A)
 some r = do
   first ← r
   more ← many r
   gives (first ∷ more)
 
 -- id "=" constant ";"
-abbrev constant_definition : Rule ConstantDefinition
+abbrev pub constant_definition : Rule ConstantDefinition
 constant_definition = do
   name ← identifier
   symbol s.Equal
@@ -64,12 +64,12 @@ constant_definition = do
   gives (record { name = name; value = value; semicolon = semicolon })
 
 -- ["const" id "=" constant ";" {id "=" constant ";"}]
-abbrev constant_part : Rule (List ConstantDefinition)
+abbrev pub constant_part : Rule (List ConstantDefinition)
 constant_part = word w.Const >> some constant_definition
 
 module _ (openers : ℕ) where
   -- id "=" type ";"
-  abbrev type_definition : Rule TypeDefinition
+  abbrev pub type_definition : Rule TypeDefinition
   type_definition = do
     name ← identifier
     symbol s.Equal
@@ -78,22 +78,22 @@ module _ (openers : ℕ) where
     gives (record { name = name; of = of; semicolon = semicolon })
 
   -- ["type" id "=" type ";" {id "=" type ";"}]
-  abbrev type_part : Rule (List TypeDefinition)
+  abbrev pub type_part : Rule (List TypeDefinition)
   type_part = word w.«Type» >> some type_definition
 
   -- vars ";"
-  abbrev variable_section : Rule (Section Denoter)
+  abbrev pub variable_section : Rule (Section Denoter)
   variable_section = do
     found ← section (denoter openers)
     symbol s.Semicolon
     gives found
 
   -- ["var" vars ";" {vars ";"}]
-  abbrev variable_part : Rule (List (Section Denoter))
+  abbrev pub variable_part : Rule (List (Section Denoter))
   variable_part = word w.Var >> some variable_section
 
   -- compound = "begin" sequence "end"
-  abbrev statement_part : Rule StatementPart
+  abbrev pub statement_part : Rule StatementPart
   statement_part = do
     at ← opener openers (Word w.Begin)
     found ← sequence (statements.behind openers).statement
@@ -108,12 +108,12 @@ pub record Declared : Type 0 where
   pub block : List Tree
 
 -- `forward`: names are in lower case, so it is any spelling of it
-abbrev forward_directive : Rule (DeclaredBody × List Tree)
+abbrev pub forward_directive : Rule (DeclaredBody × List Tree)
 forward_directive = do
   at ← token (Id (codes "forward"))
   gives (body.Forward at, [])
 
-abbrev block_body : Rule Tree → Rule (DeclaredBody × List Tree)
+abbrev pub block_body : Rule Tree → Rule (DeclaredBody × List Tree)
 block_body block = do
   tree ← block
   gives (body.Block, tree ∷ [])
@@ -122,7 +122,7 @@ module _ (limits : Limits) where
   -- procdecl ";" | funcdecl ";", where
   -- procdecl = "procedure" id [formals] ";" (block | forward)
   -- funcdecl = "function" id [formals] [":" id] ";" (block | forward)
-  abbrev declaration : Rule Tree → Rule Declared
+  abbrev pub declaration : Rule Tree → Rule Declared
   declaration block = do
     one_more_declaration limits.declarations
     heading ← heading limits.openers
@@ -158,7 +158,7 @@ module _ (limits : Limits) where
       joined (map (λ d. d.block) declared),
     )
 
-  abbrev tree_of : Block × List Tree → Tree
+  abbrev pub tree_of : Block × List Tree → Tree
   tree_of b = roll-Tree (record { own = b.0; inside = b.1 })
 
   unfoldable pub nested_block : ℕ → Rule Tree
@@ -166,7 +166,7 @@ module _ (limits : Limits) where
   nested_block (suc depth) = with_own_ordinals (tree_of <$> block_with None depth (nested_block depth))
 
   -- ["(" id {"," id} ")"]
-  abbrev program_parameters : Rule (List Identifier)
+  abbrev pub program_parameters : Rule (List Identifier)
   program_parameters = do
     symbol s.LeftParen
     names ← separated (symbol s.Comma) identifier

@@ -20,7 +20,7 @@ use Rattle.mp_ast.specs.LeafGrammar.{identifier, number, character_string, sign}
 
 -- ---- operators
 
-abbrev written : Operator → ℕ → Rule (ℕ × Operator)
+abbrev pub written : Operator → ℕ → Rule (ℕ × Operator)
 written o at = gives (at, o)
 
 -- "=" | "<>" | "<" | "<=" | ">" | ">=" | "in"
@@ -43,7 +43,7 @@ abbrev pub multiplying_operator : Rule (ℕ × Operator)
 multiplying_operator =
     symbol s.Star >>= written op.Multiply <|> word w.Div >>= written op.Div <|> word w.Mod >>= written op.Mod <|> word w.And >>= written op.And
 
-abbrev operation : Rule (ℕ × Operator) → Rule Expr → Rule (Operation Expr)
+abbrev pub operation : Rule (ℕ × Operator) → Rule Expr → Rule (Operation Expr)
 operation operator operand = do
   o ← operator
   x ← operand
@@ -72,12 +72,12 @@ pub record Deeper : Type 1 where
 -- In these productions `room` more openers may stand open, and `behind` is what stands behind one more.
 module _ (room : ℕ) (behind : Deeper) where
   -- "[" expr {"," expr} "]"
-  abbrev further_index : Rule (Selector Expr)
+  abbrev pub further_index : Rule (Selector Expr)
   further_index = do
     at ← symbol s.Comma
     selector.Index at <$> behind.expression
 
-  abbrev index_list : Rule (List (Selector Expr))
+  abbrev pub index_list : Rule (List (Selector Expr))
   index_list = do
     at ← opener room (Symbol s.LeftBracket)
     first ← behind.expression
@@ -86,14 +86,14 @@ module _ (room : ℕ) (behind : Deeper) where
     gives (selector.Index at first ∷ more)
 
   -- "." id
-  abbrev field_selection : Rule (List (Selector Expr))
+  abbrev pub field_selection : Rule (List (Selector Expr))
   field_selection = do
     at ← symbol s.Dot
     name ← identifier
     gives (selector.Field at name ∷ [])
 
   -- "^"
-  abbrev pointer_selection : Rule (List (Selector Expr))
+  abbrev pub pointer_selection : Rule (List (Selector Expr))
   pointer_selection = do
     at ← symbol s.Caret
     gives (selector.Follow at ∷ [])
@@ -106,13 +106,13 @@ module _ (room : ℕ) (behind : Deeper) where
     gives (record { name = name; selectors = selectors })
 
   -- actual = expr [":" expr]
-  abbrev width : Rule (Width Expr)
+  abbrev pub width : Rule (Width Expr)
   width = do
     at ← symbol s.Colon
     value ← behind.expression
     gives (record { at = at; value = value })
 
-  abbrev actual : Rule (Actual Expr)
+  abbrev pub actual : Rule (Actual Expr)
   actual = do
     value ← behind.expression
     width ← optional width
@@ -127,14 +127,14 @@ module _ (room : ℕ) (behind : Deeper) where
     gives found
 
   -- member = expr [".." expr]
-  abbrev member : Rule (Member Expr)
+  abbrev pub member : Rule (Member Expr)
   member = do
     first ← behind.expression
     last ← optional (symbol s.DotDot >> behind.expression)
     gives (record { first = first; last = last })
 
   -- "[" [member {"," member}] "]"
-  abbrev set_constructor : Rule Expr
+  abbrev pub set_constructor : Rule Expr
   set_constructor = do
     at ← opener room (Symbol s.LeftBracket)
     members ← separated (symbol s.Comma) member <|> gives []
@@ -142,13 +142,13 @@ module _ (room : ℕ) (behind : Deeper) where
     gives (e.Set at members)
 
   -- id actuals
-  abbrev function_call : Rule Expr
+  abbrev pub function_call : Rule Expr
   function_call = do
     name ← identifier
     e.Call name <$> actuals_with
 
   -- "(" expr ")"
-  abbrev parenthesized : Rule Expr
+  abbrev pub parenthesized : Rule Expr
   parenthesized = do
     at ← opener room (Symbol s.LeftParen)
     x ← behind.expression
@@ -156,7 +156,7 @@ module _ (room : ℕ) (behind : Deeper) where
     gives (e.Inside at x)
 
   -- "not" factor
-  abbrev negation : Rule Expr
+  abbrev pub negation : Rule Expr
   negation = do
     at ← opener room (Word w.Not)
     e.Not at <$> behind.factor

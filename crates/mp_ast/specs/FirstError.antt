@@ -19,8 +19,8 @@ pub record MoreDeclarations (limits others : Limits) : Type 0 where
 abbrev Not : Type 0 → Type 0
 Not P = P → ⊥
 
--- Why no program begins with a list of tokens that ends with the wrong one. A program is finite, so that it keeps the
--- language without limits exactly where it keeps some limits.
+-- Why no program begins with a list of tokens that ends with the wrong one. A list is finite, so that it is that of a
+-- program without limits exactly where it is one under some limits.
 
 -- a program without the limit on declarations begins with them
 abbrev pub HasTooManyDeclarations : Limits → List TokenKind → Type 0

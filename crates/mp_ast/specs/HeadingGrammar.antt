@@ -12,17 +12,17 @@ use Rattle.mp_ast.specs.Rules.{Rule, ◌>>=◌, ◌>>◌, ◌<$>◌, ◌<|>◌, 
 use Rattle.mp_ast.specs.LeafGrammar.{identifier}
 
 -- ":" id
-abbrev result_type : Rule Identifier
+abbrev pub result_type : Rule Identifier
 result_type = symbol s.Colon >> identifier
 
 -- id {"," id} ":" id
-abbrev value_parameters : Rule FormalSection
+abbrev pub value_parameters : Rule FormalSection
 value_parameters = do
   names ← separated (symbol s.Comma) identifier
   f.Values names <$> result_type
 
 -- "var" id {"," id} ":" id
-abbrev variable_parameters : Rule FormalSection
+abbrev pub variable_parameters : Rule FormalSection
 variable_parameters = do
   at ← word w.Var
   names ← separated (symbol s.Comma) identifier
@@ -31,7 +31,7 @@ variable_parameters = do
 -- Of a procedural or functional parameter, these are its own parameters, if there are any.
 module _ (formals : Rule (List FormalSection)) where
   -- "procedure" id [formals]
-  abbrev procedure_parameter : Rule FormalSection
+  abbrev pub procedure_parameter : Rule FormalSection
   procedure_parameter = do
     at ← word w.Procedure
     name ← identifier
@@ -39,7 +39,7 @@ module _ (formals : Rule (List FormalSection)) where
     gives (f.Procedure at name own)
 
   -- "function" id [formals] ":" id
-  abbrev function_parameter : Rule FormalSection
+  abbrev pub function_parameter : Rule FormalSection
   function_parameter = do
     at ← word w.Function
     name ← identifier
@@ -47,11 +47,11 @@ module _ (formals : Rule (List FormalSection)) where
     f.Function at name own <$> result_type
 
   -- formal = ["var"] id {"," id} ":" id | "procedure" id [formals] | "function" id [formals] ":" id
-  abbrev formal : Rule FormalSection
+  abbrev pub formal : Rule FormalSection
   formal = value_parameters <|> variable_parameters <|> procedure_parameter <|> function_parameter
 
 -- formals = "(" formal {";" formal} ")"
-abbrev formals_with : ℕ → Rule (List FormalSection) → Rule (List FormalSection)
+abbrev pub formals_with : ℕ → Rule (List FormalSection) → Rule (List FormalSection)
 formals_with room behind = do
   opener room (Symbol s.LeftParen)
   sections ← separated (symbol s.Semicolon) (formal behind)
@@ -67,7 +67,7 @@ abbrev pub formals : ℕ → Rule (List FormalSection)
 formals room = formals_with room (formals_behind room)
 
 -- "procedure" id [formals]
-abbrev procedure_heading : ℕ → Rule HeadingTree
+abbrev pub procedure_heading : ℕ → Rule HeadingTree
 procedure_heading room = do
   at ← word w.Procedure
   name ← identifier
@@ -75,7 +75,7 @@ procedure_heading room = do
   gives (record { at = at; name = name; formals = sections; kind = kind.Procedure })
 
 -- "function" id [formals] [":" id]
-abbrev function_heading : ℕ → Rule HeadingTree
+abbrev pub function_heading : ℕ → Rule HeadingTree
 function_heading room = do
   at ← word w.Function
   name ← identifier

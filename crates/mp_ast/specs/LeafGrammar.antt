@@ -22,12 +22,12 @@ number = λ i x j. token (Number x.value) i x.at j
 abbrev pub character_string : Rule CharacterString
 character_string = λ i x j. token (Text x.characters) i x.at j
 
-abbrev plus : Rule Sign
+abbrev pub plus : Rule Sign
 plus = do
   at ← symbol Plus
   gives (record { at = at; kind = sign_kind.Plus })
 
-abbrev minus : Rule Sign
+abbrev pub minus : Rule Sign
 minus = do
   at ← symbol Minus
   gives (record { at = at; kind = sign_kind.Minus })
@@ -37,7 +37,7 @@ abbrev pub sign : Rule Sign
 sign = plus <|> minus
 
 -- constant = [sign] (number | id) | string
-abbrev signed_constant : Rule Constant
+abbrev pub signed_constant : Rule Constant
 signed_constant = do
   s ← optional sign
   c.Number s <$> number <|> c.Name s <$> identifier

@@ -28,7 +28,7 @@ abbrev pub sequence : Rule Statement → Rule (List Statement)
 sequence statement = separated (symbol s.Semicolon) statement
 
 -- arm = constant {"," constant} ":" statement
-abbrev arm : Rule Statement → Rule (Arm Statement)
+abbrev pub arm : Rule Statement → Rule (Arm Statement)
 arm statement = do
   constants ← separated (symbol s.Comma) constant
   symbol s.Colon
@@ -36,17 +36,17 @@ arm statement = do
   gives (record { constants = constants; body = body })
 
 -- an `else` belongs to the nearest `if` that can take it: an `if` without one is not followed by one
-abbrev else_part : Rule Statement → Rule (Option Statement)
+abbrev pub else_part : Rule Statement → Rule (Option Statement)
 else_part statement = Some <$> (word w.Else >> statement) <|> not_before (Word w.Else) >> gives None
 
-abbrev upward : Rule Direction
+abbrev pub upward : Rule Direction
 upward = word w.To >> gives direction.To
 
-abbrev downward : Rule Direction
+abbrev pub downward : Rule Direction
 downward = word w.Downto >> gives direction.Downto
 
 -- id ":=" expr ("to" | "downto") expr
-abbrev for_head : Rule Expr → Rule ForHead
+abbrev pub for_head : Rule Expr → Rule ForHead
 for_head expression = do
   variable ← identifier
   assign ← symbol s.Assign
@@ -58,11 +58,11 @@ for_head expression = do
 -- In these productions `room` more openers may stand open, and `behind` is what stands behind one more.
 module _ (room : ℕ) (behind : Deeper) where
   -- nothing: it stands at the token that follows
-  abbrev empty_statement : Rule Statement
+  abbrev pub empty_statement : Rule Statement
   empty_statement = t.Empty <$> here
 
   -- access ":=" expr
-  abbrev assignment : Rule Statement
+  abbrev pub assignment : Rule Statement
   assignment = do
     variable ← access room
     at ← symbol s.Assign
@@ -70,21 +70,21 @@ module _ (room : ℕ) (behind : Deeper) where
     gives (t.Assign variable at value)
 
   -- id [actuals]
-  abbrev procedure_call : Rule Statement
+  abbrev pub procedure_call : Rule Statement
   procedure_call = do
     name ← identifier
     given ← actuals room <|> gives []
     gives (t.Call name given)
 
   -- "goto" number
-  abbrev goto_statement : Rule Statement
+  abbrev pub goto_statement : Rule Statement
   goto_statement = do
     at ← word w.Goto
     label ← number
     gives (t.Goto at label)
 
   -- compound = "begin" sequence "end"
-  abbrev compound_statement : Rule Statement
+  abbrev pub compound_statement : Rule Statement
   compound_statement = do
     at ← opener room (Word w.Begin)
     statements ← sequence behind.statement
@@ -92,7 +92,7 @@ module _ (room : ℕ) (behind : Deeper) where
     gives (t.Compound at statements)
 
   -- "if" expr "then" statement ["else" statement]
-  abbrev if_statement : Rule Statement
+  abbrev pub if_statement : Rule Statement
   if_statement = do
     at ← opener room (Word w.If)
     condition ← behind.expression
@@ -102,7 +102,7 @@ module _ (room : ℕ) (behind : Deeper) where
     gives (t.If at condition first second)
 
   -- "case" expr "of" arm {";" arm} [";"] "end"
-  abbrev case_statement : Rule Statement
+  abbrev pub case_statement : Rule Statement
   case_statement = do
     at ← opener room (Word w.Case)
     index ← behind.expression
@@ -113,7 +113,7 @@ module _ (room : ℕ) (behind : Deeper) where
     gives (t.Case at index arms)
 
   -- "while" expr "do" statement
-  abbrev while_statement : Rule Statement
+  abbrev pub while_statement : Rule Statement
   while_statement = do
     at ← opener room (Word w.While)
     condition ← behind.expression
@@ -122,7 +122,7 @@ module _ (room : ℕ) (behind : Deeper) where
     gives (t.While at condition body)
 
   -- "repeat" sequence "until" expr
-  abbrev repeat_statement : Rule Statement
+  abbrev pub repeat_statement : Rule Statement
   repeat_statement = do
     at ← opener room (Word w.Repeat)
     statements ← sequence behind.statement
@@ -131,7 +131,7 @@ module _ (room : ℕ) (behind : Deeper) where
     gives (t.Repeat at statements condition)
 
   -- "for" id ":=" expr ("to" | "downto") expr "do" statement
-  abbrev for_statement : Rule Statement
+  abbrev pub for_statement : Rule Statement
   for_statement = do
     at ← opener room (Word w.For)
     head ← for_head behind.expression
@@ -140,7 +140,7 @@ module _ (room : ℕ) (behind : Deeper) where
     gives (t.For at head body)
 
   -- "with" access {"," access} "do" statement
-  abbrev with_statement : Rule Statement
+  abbrev pub with_statement : Rule Statement
   with_statement = do
     at ← opener room (Word w.With)
     records ← separated (symbol s.Comma) behind.access
@@ -163,7 +163,7 @@ module _ (room : ℕ) (behind : Deeper) where
       <|> with_statement
 
   -- number ":"
-  abbrev labelled : Rule Statement
+  abbrev pub labelled : Rule Statement
   labelled = do
     label ← number
     symbol s.Colon

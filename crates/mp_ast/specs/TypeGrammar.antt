@@ -15,14 +15,14 @@ use Rattle.mp_ast.specs.Rules.{Rule, ◌>>=◌, ◌>>◌, ◌<$>◌, ◌<|>◌, 
 use Rattle.mp_ast.specs.LeafGrammar.{identifier, constant}
 
 -- simple = id | "(" id {"," id} ")" | constant ".." constant
-abbrev enumeration : Rule Denoter
+abbrev pub enumeration : Rule Denoter
 enumeration = do
   at ← symbol s.LeftParen
   names ← separated (symbol s.Comma) identifier
   symbol s.RightParen
   gives (d.Enumeration at names)
 
-abbrev subrange : Rule Denoter
+abbrev pub subrange : Rule Denoter
 subrange = do
   first ← constant
   symbol s.DotDot
@@ -32,7 +32,7 @@ abbrev pub simple_type : Rule Denoter
 simple_type = d.Named <$> identifier <|> enumeration <|> subrange
 
 -- "^" id
-abbrev pointer_type : Rule Denoter
+abbrev pub pointer_type : Rule Denoter
 pointer_type = do
   at ← symbol s.Caret
   d.Pointer at <$> identifier
@@ -46,14 +46,14 @@ section denoter = do
   gives (record { names = names; of = of })
 
 -- "," simple
-abbrev further_index : Rule (Index Denoter)
+abbrev pub further_index : Rule (Index Denoter)
 further_index = do
   at ← symbol s.Comma
   of ← simple_type
   gives (record { at = at; of = of })
 
 -- variant = constant {"," constant} ":" "(" fields ")"
-abbrev variant : Rule Denoter → Rule (Variant Denoter)
+abbrev pub variant : Rule Denoter → Rule (Variant Denoter)
 variant fields = do
   constants ← separated (symbol s.Comma) constant
   symbol s.Colon
@@ -63,7 +63,7 @@ variant fields = do
   gives (record { constants = constants; fields = found })
 
 -- id ":"
-abbrev tag_field : Rule Identifier
+abbrev pub tag_field : Rule Identifier
 tag_field = do
   name ← identifier
   symbol s.Colon
@@ -78,20 +78,20 @@ pub record Deeper : Type 1 where
 module _ (room : ℕ) (behind : Deeper) where
   -- A structured type opens with its first word, which is `packed` where that stands there. Then the word after it
   -- does not open again: of these two `packed` is the ordinal of that word, where it stands there.
-  abbrev structure_word : Option ℕ → WordSymbol → Rule ℕ
+  abbrev pub structure_word : Option ℕ → WordSymbol → Rule ℕ
   structure_word None word_symbol = opener room (Word word_symbol)
   structure_word (Some packed) word_symbol = word word_symbol
 
-  abbrev is_packed : Option ℕ → Bool
+  abbrev pub is_packed : Option ℕ → Bool
   is_packed None = false
   is_packed (Some packed) = true
 
-  abbrev first_of : Option ℕ → ℕ → ℕ
+  abbrev pub first_of : Option ℕ → ℕ → ℕ
   first_of None at = at
   first_of (Some packed) at = packed
 
   -- "array" "[" simple {"," simple} "]" "of" type
-  abbrev array_type : Option ℕ → Rule Denoter
+  abbrev pub array_type : Option ℕ → Rule Denoter
   array_type packed = do
     at ← structure_word packed w.Array
     symbol s.LeftBracket
@@ -102,7 +102,7 @@ module _ (room : ℕ) (behind : Deeper) where
     d.Array (is_packed packed) (record { at = first_of packed at; of = of } ∷ more) <$> behind.denoter
 
   -- "record" fields "end"
-  abbrev record_type : Option ℕ → Rule Denoter
+  abbrev pub record_type : Option ℕ → Rule Denoter
   record_type packed = do
     at ← structure_word packed w.Record
     fields ← behind.field_list
@@ -110,25 +110,25 @@ module _ (room : ℕ) (behind : Deeper) where
     gives (d.Record (first_of packed at) (is_packed packed) fields)
 
   -- "set" "of" simple
-  abbrev set_type : Option ℕ → Rule Denoter
+  abbrev pub set_type : Option ℕ → Rule Denoter
   set_type packed = do
     at ← structure_word packed w.Set
     word w.Of
     d.Set (first_of packed at) (is_packed packed) <$> simple_type
 
   -- "file" "of" type
-  abbrev file_type : Option ℕ → Rule Denoter
+  abbrev pub file_type : Option ℕ → Rule Denoter
   file_type packed = do
     at ← structure_word packed w.File
     word w.Of
     d.File (first_of packed at) at <$> behind.denoter
 
   -- struct
-  abbrev structure : Option ℕ → Rule Denoter
+  abbrev pub structure : Option ℕ → Rule Denoter
   structure packed = array_type packed <|> record_type packed <|> set_type packed <|> file_type packed
 
   -- "packed" struct
-  abbrev packed_structure : Rule Denoter
+  abbrev pub packed_structure : Rule Denoter
   packed_structure = do
     at ← opener room (Word w.Packed)
     structure (Some at)
@@ -138,11 +138,11 @@ module _ (room : ℕ) (behind : Deeper) where
   denoter_with = simple_type <|> pointer_type <|> structure None <|> packed_structure
 
   -- fixed = vars {";" vars}
-  abbrev fixed_part : Rule (List (Section Denoter))
+  abbrev pub fixed_part : Rule (List (Section Denoter))
   fixed_part = separated (symbol s.Semicolon) (section denoter_with)
 
   -- varpart = "case" [id ":"] id "of" variant {";" variant}
-  abbrev variant_part : Rule (VariantPart Denoter)
+  abbrev pub variant_part : Rule (VariantPart Denoter)
   variant_part = do
     at ← opener room (Word w.Case)
     tag ← optional tag_field
@@ -152,20 +152,20 @@ module _ (room : ℕ) (behind : Deeper) where
     gives (record { at = at; tag = tag; of = of; variants = variants })
 
   -- fixed [";" varpart]
-  abbrev fixed_fields : Rule Denoter
+  abbrev pub fixed_fields : Rule Denoter
   fixed_fields = do
     fixed ← fixed_part
     part ← optional (symbol s.Semicolon >> variant_part)
     gives (d.Fields fixed part)
 
   -- varpart
-  abbrev variant_fields : Rule Denoter
+  abbrev pub variant_fields : Rule Denoter
   variant_fields = do
     part ← variant_part
     gives (d.Fields [] (Some part))
 
   -- fields = [(fixed [";" varpart] | varpart) [";"]]
-  abbrev some_fields : Rule Denoter
+  abbrev pub some_fields : Rule Denoter
   some_fields = do
     fields ← fixed_fields <|> variant_fields
     optional (symbol s.Semicolon)
