@@ -5,7 +5,8 @@ use Rattle.std.specs.Prelude.{if◌then◌else◌, nat_lt}
 use Rattle.mp_ast.specs.Rules.{Input, Rule}
 use Rattle.mp_ast.specs.Rules as rule
 use Rattle.mp_cursor.specs.Nexts.{next_of}
-use Rattle.mp_cursor.specs.Parsers.{Outcome, Parser, next_token, counted, deeper, with_own_ordinals, back_at, too_many, Nexts}
+use Rattle.mp_cursor.specs.Nexts.{Nexts}
+use Rattle.mp_cursor.specs.Parsers.{Outcome, Parser, next_token, counted, deeper, with_own_ordinals, back_at, too_many}
 use Rattle.mp_cursor.proofs.Laws.{Law, read, read_is}
 
 -- ---- declarations

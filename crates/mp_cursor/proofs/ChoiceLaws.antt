@@ -4,8 +4,10 @@ use Rattle.std.specs.Prelude.{if◌then◌else◌}
 use Rattle.mp_ast.specs.Rules.{Input, Rule, gives}
 use Rattle.mp_ast.specs.Rules.{◌<$>◌ as ◌<$>ʳ◌, ◌<|>◌ as ◌<|>ʳ◌}
 use Rattle.mp_ast.specs.Rules as rule
-use Rattle.mp_cursor.specs.Parsers.{Parser, next_token, branch, optional, Nexts}
-use Rattle.mp_cursor.proofs.NextSets.{either, within, apart, within_is, apart_is, in_first, in_second}
+use Rattle.mp_cursor.specs.Nexts.{Nexts}
+use Rattle.mp_cursor.specs.Parsers.{Parser, next_token, branch, optional}
+use Rattle.mp_cursor.proofs.NextSets.{within, apart, within_is, apart_is, in_first, in_second}
+use Rattle.mp_cursor.specs.Nexts.{either}
 use Rattle.mp_cursor.proofs.Laws.{Law, read, law_pure, law_map}
 
 abbrev Branched : {A : Type 0} → Rule A → Rule A → Parser A → Parser A → Input → A → Input → Bool → Type 0

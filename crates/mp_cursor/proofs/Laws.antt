@@ -13,9 +13,11 @@ use Rattle.mp_ast.specs.Rules as rule
 use Rattle.mp_cursor.specs.declared.next.Next.{Next}
 use Rattle.mp_cursor.specs.declared.next.Next.TheVariants as next
 use Rattle.mp_cursor.specs.Nexts.{next_of, class_of, is}
-use Rattle.mp_cursor.specs.Parsers.{Outcome, Parser, and_then, ◌>>=◌, ◌<$>◌, pure, next_token, behind, behind_of, expect, wrong, here, Nexts}
+use Rattle.mp_cursor.specs.Nexts.{Nexts}
+use Rattle.mp_cursor.specs.Parsers.{Outcome, Parser, and_then, ◌>>=◌, ◌<$>◌, pure, next_token, behind, behind_of, expect, wrong, here}
 use Rattle.mp_cursor.proofs.NextLemmas.{is_same, is_itself, only_word, only_symbol}
-use Rattle.mp_cursor.proofs.NextSets.{any, within, within_is}
+use Rattle.mp_cursor.proofs.NextSets.{within, within_is}
+use Rattle.mp_cursor.specs.Nexts.{any}
 
 abbrev pub read : {A : Type 0} → A → Input → Outcome A
 read x i = Ok (x, i)
@@ -189,4 +191,13 @@ law_here g = record {
   complete = λ i at j d e. ap (λ n. read n i) d.0 ∙ ap (λ m. read at m) d.1;
   begins = λ i at j d e. ap (λ m. g (next_token m)) d.1 ∙ e;
   shrinks = λ i at j h. let e = ap (λ m. length m.rest) (read_is i.at at i j h).1 in omega arith;
+}
+
+-- what is never read
+pub law_never : {A : Type 0} (f g : Nexts) → Law f g (refuse {A = A}) rule.none
+law_never f g = record {
+  sound = λ i x j h. absurd (let n : ⊥ = cc in n);
+  complete = λ i x j d e. absurd d;
+  begins = λ i x j d e. absurd d;
+  shrinks = λ i x j h. absurd (let n : ⊥ = cc in n);
 }

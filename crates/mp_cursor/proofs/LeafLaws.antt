@@ -16,7 +16,7 @@ use Rattle.mp_cursor.specs.declared.next.Next.{Next}
 use Rattle.mp_cursor.specs.declared.next.Next.TheVariants as next
 use Rattle.mp_cursor.specs.Nexts.{next_of, class_of, is}
 use Rattle.mp_cursor.specs.Parsers.{next_token, expect, wrong, identifier, identifier_of, number, number_of, character_string, string_of, opening, open_where}
-use Rattle.mp_cursor.proofs.NextSets.{any}
+use Rattle.mp_cursor.specs.Nexts.{any}
 use Rattle.mp_cursor.proofs.Laws.{Law, read, read_is, IsOnly, word_only, symbol_only, law_expect}
 
 -- ---- leaves

@@ -7,3 +7,5 @@ pub mod ChoiceLaws
 pub mod ListLaws
 pub mod SeriesLaws
 pub mod BlockLaws
+pub mod ConstantLaws
+pub mod LoopLemmas

@@ -5,10 +5,12 @@ use Rattle.std.specs.Prelude.{if◌then◌else◌}
 use Rattle.mp_ast.specs.Rules.{Input, Rule, gives, token, Many, no_more, one_more, many, joined, many_lists}
 use Rattle.mp_ast.specs.Rules.{◌>>=◌ as ◌>>=ʳ◌, ◌>>◌ as ◌>>ʳ◌, ◌<$>◌ as ◌<$>ʳ◌}
 use Rattle.mp_ast.specs.Rules as rule
-use Rattle.mp_cursor.specs.Parsers.{Parser, and_then, ◌>>=◌, ◌>>◌, ◌<$>◌, pure, next_token, branch, loop, repeated, and_one, and_all, separated, expect, left, Nexts}
+use Rattle.mp_cursor.specs.Nexts.{Nexts}
+use Rattle.mp_cursor.specs.Parsers.{Parser, and_then, ◌>>=◌, ◌>>◌, ◌<$>◌, pure, next_token, branch, loop, repeated, and_one, and_all, separated, expect, left}
 use Rattle.mp_cursor.specs.Nexts.{is, class_of}
 use Rattle.mp_ast.specs.declared.tokens.TokenKind.{TokenKind}
-use Rattle.mp_cursor.proofs.NextSets.{either, within, apart, within_is, apart_is, either_by, in_first, in_second, within_any, within_itself, within_both}
+use Rattle.mp_cursor.proofs.NextSets.{within, apart, within_is, apart_is, either_by, in_first, in_second, within_any, within_itself, within_both}
+use Rattle.mp_cursor.specs.Nexts.{either}
 use Rattle.mp_cursor.proofs.SameRules.{same_value, same_itself}
 use Rattle.mp_cursor.proofs.Laws.{Law, read, read_is, both_ok, law_then, law_map, law_as, law_expect, IsOnly, token_falls}
 

@@ -1,24 +1,11 @@
--- Sets of next tokens, and a test whether one lies in another.
+-- Whether one set of next tokens lies in another, as a test.
 use Rattle.std.proofs.Common.{◌≡◌, ℕ, zero, suc, Bool, true, false, ◌&&◌, ◌||◌, List, [], ◌∷◌, Some, refl, sym, ap, ◌∙◌, subst}
 use Rattle.std.specs.Prelude.{not, slice_get}
 use Rattle.mp_cursor.specs.declared.next.Next.{Next}
 use Rattle.mp_cursor.specs.declared.next.Next.TheVariants as next
 use Rattle.mp_cursor.specs.Nexts.{is, word_number, symbol_number}
-use Rattle.mp_cursor.specs.Parsers.{Nexts}
+use Rattle.mp_cursor.specs.Nexts.{Nexts, any, either, among, but}
 use Rattle.mp_cursor.proofs.NextLemmas.{words, symbols, word_found, symbol_found}
-
-abbrev pub any : Nexts
-any = λ n. true
-
-abbrev pub either : Nexts → Nexts → Nexts
-either f g = λ n. f n || g n
-
-abbrev pub among : List Next → Nexts
-among [] = λ n. false
-among (m ∷ more) = λ n. is m n || among more n
-
-abbrev pub but : List Next → Nexts
-but tokens = λ n. not (among tokens n)
 
 -- ---- tests on every token
 

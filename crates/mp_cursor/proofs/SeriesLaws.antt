@@ -7,9 +7,11 @@ use Rattle.mp_ast.specs.Rules.{Input, Rule, gives, token, Many, no_more, one_mor
 use Rattle.mp_ast.specs.Rules.{◌>>=◌ as ◌>>=ʳ◌, ◌>>◌ as ◌>>ʳ◌, ◌<$>◌ as ◌<$>ʳ◌}
 use Rattle.mp_ast.specs.Rules as rule
 use Rattle.mp_cursor.specs.declared.next.Next.{Next}
-use Rattle.mp_cursor.specs.Parsers.{Parser, and_then, ◌>>=◌, ◌>>◌, pure, next_token, branch, series, repeated_series, separated_series, and_one, expect, left, Nexts}
+use Rattle.mp_cursor.specs.Nexts.{Nexts}
+use Rattle.mp_cursor.specs.Parsers.{Parser, and_then, ◌>>=◌, ◌>>◌, pure, next_token, branch, series, repeated_series, separated_series, and_one, expect, left}
 use Rattle.mp_cursor.specs.Nexts.{is, class_of}
-use Rattle.mp_cursor.proofs.NextSets.{either, within, apart, within_is, apart_is, in_first, in_second, within_both}
+use Rattle.mp_cursor.proofs.NextSets.{within, apart, within_is, apart_is, in_first, in_second, within_both}
+use Rattle.mp_cursor.specs.Nexts.{either}
 use Rattle.mp_cursor.proofs.Laws.{Law, Same, read, read_is, both_ok, law_then, law_as, law_expect, IsOnly, token_falls}
 
 module _ {A : Type 0} {first inner : Nexts} {p : Parser A} {r : Rule A} (k : TokenKind) (o : IsOnly k) (test follow : Nexts) (a : Law first inner p r) (begins : within first test ≡ true) (stops : apart follow (is (class_of k)) ≡ true) (ends : apart follow test ≡ true) (again : within (is (class_of k)) inner ≡ true) (last : within follow inner ≡ true) where

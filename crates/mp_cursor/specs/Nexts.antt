@@ -1,5 +1,5 @@
 -- What the next token is, and whether it is what is looked for.
-use Rattle.std.specs.Prelude.{ℕ, ◌==◌, Bool, true, false, List, [], ◌∷◌}
+use Rattle.std.specs.Prelude.{ℕ, ◌==◌, Bool, true, false, ◌||◌, not, List, [], ◌∷◌}
 use Rattle.mp_ast.specs.declared.tokens.TokenKind.{TokenKind}
 use Rattle.mp_ast.specs.declared.tokens.TokenKind.TheVariants as kind
 use Rattle.mp_ast.specs.declared.words.WordSymbol.{WordSymbol}
@@ -89,3 +89,21 @@ is next.Number next.Number = true
 is next.Text next.Text = true
 is next.End next.End = true
 is _ _ = false
+
+-- ---- sets of next tokens
+
+abbrev pub Nexts : Type 0
+Nexts = Next → Bool
+
+abbrev pub any : Nexts
+any = λ n. true
+
+abbrev pub either : Nexts → Nexts → Nexts
+either f g = λ n. f n || g n
+
+abbrev pub among : List Next → Nexts
+among [] = λ n. false
+among (m ∷ more) = λ n. is m n || among more n
+
+abbrev pub but : List Next → Nexts
+but tokens = λ n. not (among tokens n)

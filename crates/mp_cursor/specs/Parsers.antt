@@ -10,7 +10,7 @@ use Rattle.mp_ast.specs.Rules.{Input}
 use Rattle.mp_cursor.specs.declared.failure.Failure.{Failure}
 use Rattle.mp_cursor.specs.declared.failure.Failure.TheVariants.{Memory, Wrong, TooDeep, TooMany}
 use Rattle.mp_cursor.specs.declared.next.Next.{Next}
-use Rattle.mp_cursor.specs.Nexts.{next_of, is}
+use Rattle.mp_cursor.specs.Nexts.{next_of, is, Nexts}
 
 -- what is read and what is left, or where reading stopped
 abbrev pub Outcome : Type 0 → Type 0
@@ -117,10 +117,6 @@ unfoldable pub character_string : Parser CharacterString
 character_string i = string_of i.at i.declared i.rest
 
 -- ---- choices and lists
-
--- which tokens
-abbrev pub Nexts : Type 0
-Nexts = Next → Bool
 
 -- the one before such a token, else the other
 abbrev pub branch : {A : Type 0} → Nexts → Parser A → Parser A → Parser A
