@@ -14,7 +14,7 @@ use Rattle.mp_cursor.specs.declared.next.Next.{Next}
 use Rattle.mp_cursor.specs.declared.next.Next.TheVariants as next
 use Rattle.mp_cursor.specs.Nexts.{next_of, class_of, is}
 use Rattle.mp_cursor.specs.Nexts.{Nexts}
-use Rattle.mp_cursor.specs.Parsers.{Outcome, Parser, and_then, ◌>>=◌, ◌<$>◌, pure, next_token, behind, behind_of, expect, wrong, here}
+use Rattle.mp_cursor.specs.Parsers.{Outcome, Parser, and_then, ◌>>=◌, ◌<$>◌, pure, refuse, next_token, behind, behind_of, expect, wrong, here}
 use Rattle.mp_cursor.proofs.NextLemmas.{is_same, is_itself, only_word, only_symbol}
 use Rattle.mp_cursor.proofs.NextSets.{within, within_is}
 use Rattle.mp_cursor.specs.Nexts.{any}

@@ -111,3 +111,14 @@ same_itself {r = r} = record {
   to = λ i y j d. subst (λ m. r i y m) d.3.1 (subst (λ x. r i x d.1) d.3.0 d.2);
   back = λ i y j d. (y, j, d, (refl, refl));
 }
+
+-- what may stand behind a list and gives nothing
+pub behind_list : {A B C : Type 0} (r : Rule A) (o : Rule B) (k : A → Rule C) → Same ((r >>=ʳ (λ xs. o >>ʳ gives xs)) >>=ʳ k) (r >>=ʳ (λ xs. o >>ʳ k xs))
+behind_list r o k = record {
+  to = λ i y j d.
+      let a = d.2.3 in
+      (d.2.0, d.2.1, d.2.2, (a.0, a.1, a.2, subst (λ m. k d.2.0 m y j) (sym a.3.1) (subst (λ z. k z d.1 y j) (sym a.3.0) d.3)));
+  back = λ i y j d.
+      let a = d.3 in
+      (d.0, a.1, (d.0, d.1, d.2, (a.0, a.1, a.2, (refl, refl))), a.3);
+}
