@@ -1,7 +1,7 @@
 -- Rules that allow the same.
 use Rattle.std.proofs.Common.{◌≡◌, ◌⊎◌, inl, inr, refl, sym, ◌∙◌, subst}
 use Rattle.mp_ast.specs.Rules.{Input, Rule, gives}
-use Rattle.mp_ast.specs.Rules.{◌>>=◌ as ◌>>=ʳ◌, ◌<$>◌ as ◌<$>ʳ◌, ◌<|>◌ as ◌<|>ʳ◌}
+use Rattle.mp_ast.specs.Rules.{◌>>=◌ as ◌>>=ʳ◌, ◌>>◌ as ◌>>ʳ◌, ◌<$>◌ as ◌<$>ʳ◌, ◌<|>◌ as ◌<|>ʳ◌}
 use Rattle.mp_cursor.proofs.Laws.{Same}
 
 pub same_refl : {A : Type 0} (r : Rule A) → Same r r
