@@ -6,13 +6,18 @@ use Rattle.mp_ast.specs.Rules.{Input, Rule, gives, token, Many, no_more, one_mor
 use Rattle.mp_ast.specs.Rules.{◌>>=◌ as ◌>>=ʳ◌, ◌>>◌ as ◌>>ʳ◌, ◌<$>◌ as ◌<$>ʳ◌}
 use Rattle.mp_ast.specs.Rules as rule
 use Rattle.mp_cursor.specs.Nexts.{Nexts}
-use Rattle.mp_cursor.specs.Parsers.{Parser, and_then, ◌>>=◌, ◌>>◌, ◌<$>◌, pure, next_token, branch, loop, repeated, and_one, and_all, separated, expect, left}
+use Rattle.mp_cursor.specs.Parsers.{Parser, and_then, ◌>>=◌, ◌>>◌, ◌<$>◌, pure, next_token, branch, loop, repeated, and_one, and_all, separated, expect, opening, left}
 use Rattle.mp_cursor.specs.Nexts.{is, class_of}
 use Rattle.mp_ast.specs.declared.tokens.TokenKind.{TokenKind}
+use Rattle.mp_ast.specs.declared.tokens.TokenKind.TheVariants as kind
+use Rattle.mp_ast.specs.declared.words.WordSymbol.{WordSymbol}
+use Rattle.mp_ast.specs.declared.symbols.Symbol.{Symbol}
+use Rattle.mp_cursor.specs.declared.next.Next.TheVariants as next
+use Rattle.mp_cursor.proofs.LeafLaws.{law_opening}
 use Rattle.mp_cursor.proofs.NextSets.{within, apart, within_is, apart_is, either_by, in_first, in_second, within_any, within_itself, within_both}
 use Rattle.mp_cursor.specs.Nexts.{either}
 use Rattle.mp_cursor.proofs.SameRules.{same_value, same_itself}
-use Rattle.mp_cursor.proofs.Laws.{Law, read, read_is, both_ok, law_then, law_map, law_as, law_expect, IsOnly, token_falls}
+use Rattle.mp_cursor.proofs.Laws.{Law, read, read_is, both_ok, law_then, law_map, law_as, law_expect, IsOnly, word_only, symbol_only, token_falls}
 
 -- a parser that takes a token at least
 pub record Falls {A : Type 0} (p : Parser A) : Type 0 where
@@ -20,6 +25,16 @@ pub record Falls {A : Type 0} (p : Parser A) : Type 0 where
 
 pub falls_expect : (k : TokenKind) → IsOnly k → Falls (expect (class_of k))
 falls_expect k o = record { by = λ i at j h. token_falls k i at j ((law_expect k o).sound i at j h) }
+
+pub falls_word : (v : WordSymbol) → Falls (expect (next.Word v))
+falls_word v = falls_expect (kind.Word v) (word_only v)
+
+pub falls_symbol : (v : Symbol) → Falls (expect (next.Symbol v))
+falls_symbol v = falls_expect (kind.Symbol v) (symbol_only v)
+
+pub falls_opening : (room : ℕ) (k : TokenKind) → IsOnly k → Falls (opening room (class_of k))
+falls_opening zero k o = record { by = λ i at j h. absurd ((law_opening k o zero).sound i at j h) }
+falls_opening (suc room) k o = record { by = λ i at j h. token_falls k i at j ((law_opening k o (suc room)).sound i at j h) }
 
 pub falls_then : {A B : Type 0} {f g : Nexts} {p : Parser A} {q : A → Parser B} {s : A → Rule B} → Falls p → ((x : A) → Law f g (q x) (s x)) → Falls (p >>= q)
 falls_then {p = p} {q = q} a b = record {
@@ -157,14 +172,15 @@ module _ {A : Type 0} {first inner : Nexts} {p : Parser (List A)} {r : Rule (Lis
 
 -- ---- separators
 
-module _ {A : Type 0} {first inner : Nexts} {p : Parser A} {r : Rule A} (k : TokenKind) (o : IsOnly k) (follow : Nexts) (a : Law first inner p r) (stops : apart follow (is (class_of k)) ≡ true) (again : within (is (class_of k)) inner ≡ true) (last : within follow inner ≡ true) where
+module _ {A : Type 0} {first inner : Nexts} {p : Parser A} {r : Rule A} (k : TokenKind) (o : IsOnly k) (a : Law first inner p r) where
   -- a separator and an item
   pub law_further : Law (is (class_of k)) inner (expect (class_of k) >> p) (token k >>ʳ r)
   law_further = law_then (law_expect k o) (within_any first) (λ at. a)
 
-  falls_further : Falls (expect (class_of k) >> p)
+  pub falls_further : Falls (expect (class_of k) >> p)
   falls_further = falls_then (falls_expect k o) (λ at. a)
 
+module _ {A : Type 0} {first inner : Nexts} {p : Parser A} {r : Rule A} (k : TokenKind) (o : IsOnly k) (follow : Nexts) (a : Law first inner p r) (stops : apart follow (is (class_of k)) ≡ true) (again : within (is (class_of k)) inner ≡ true) (last : within follow inner ≡ true) where
   pub law_separated : Law first follow (separated (class_of k) p) (rule.separated (token k) r)
   law_separated = law_then a (within_both (is (class_of k)) follow inner again last) (λ x.
-      law_many_from (is (class_of k)) follow law_further falls_further (within_itself (is (class_of k))) stops again last (x ∷ []))
+      law_many_from (is (class_of k)) follow (law_further k o a) (falls_further k o a) (within_itself (is (class_of k))) stops again last (x ∷ []))

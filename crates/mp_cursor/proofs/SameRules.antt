@@ -122,3 +122,12 @@ behind_list r o k = record {
       let a = d.3 in
       (d.0, a.1, (d.0, d.1, d.2, (a.0, a.1, a.2, (refl, refl))), a.3);
 }
+
+-- what goes on with a value that was made
+pub map_first : {A B C : Type 0} (b : A → B) (r : Rule A) (k : B → Rule C) → Same ((b <$>ʳ r) >>=ʳ k) (r >>=ʳ (λ x. k (b x)))
+map_first b r k = record {
+  to = λ i y j d.
+      let a = d.2 in
+      (a.0, a.1, a.2, subst (λ m. k (b a.0) m y j) (sym a.3.1) (subst (λ z. k z d.1 y j) (sym a.3.0) d.3));
+  back = λ i y j d. (b d.0, d.1, (d.0, d.1, d.2, (refl, refl)), d.3);
+}
