@@ -9,3 +9,7 @@ pub mod BlockGrammar
 pub mod Programs
 pub mod FirstError
 pub mod PlainExpressions
+pub mod PlainStatements
+pub mod PlainTypes
+pub mod PlainHeadings
+pub mod PlainTrees
