@@ -1,1 +1,5 @@
 pub mod PlainExpressionLemmas
+pub mod PlainStatementLemmas
+pub mod PlainTypeLemmas
+pub mod PlainHeadingLemmas
+pub mod PlainTreeLemmas
