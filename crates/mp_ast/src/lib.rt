@@ -11,6 +11,7 @@ mod blocks;
 mod errors;
 mod expressions;
 mod headings;
+mod laws;
 mod leaves;
 mod lexed;
 mod statements;
@@ -26,6 +27,10 @@ pub use blocks::{
 pub use errors::{LexError, LexErrors};
 pub use expressions::{Access, Actual, Expr, Member, Operation, Operator, Selector, Width};
 pub use headings::{FormalSection, HeadingKind, HeadingTree};
+pub use laws::{
+    plain_expression_forms, plain_heading_forms, plain_statement_forms, plain_tree_forms,
+    plain_type_forms,
+};
 pub use leaves::{CharacterString, Constant, Identifier, Number, Sign, SignKind};
 pub use lexed::Lexed;
 pub use statements::{Arm, Direction, ForHead, Statement};

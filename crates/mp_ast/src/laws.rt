@@ -1,0 +1,90 @@
+// What the definitions of this crate promise: each function's contract is one law of them.
+ghost use Rattle.std.specs.Prelude.{◌≡◌, ℕ, Bool, List, Option, Some, None, map};
+ghost use Rattle.mp_ast.specs.declared.leaves.Identifier.{Identifier};
+ghost use Rattle.mp_ast.specs.declared.leaves.Number.{Number};
+ghost use Rattle.mp_ast.specs.declared.leaves.CharacterString.{CharacterString};
+ghost use Rattle.mp_ast.specs.declared.leaves.Sign.{Sign};
+ghost use Rattle.mp_ast.specs.declared.leaves.Constant.{Constant};
+ghost use Rattle.mp_ast.specs.declared.expressions.Access.{Access};
+ghost use Rattle.mp_ast.specs.declared.expressions.Actual.{Actual};
+ghost use Rattle.mp_ast.specs.declared.expressions.Member.{Member};
+ghost use Rattle.mp_ast.specs.declared.expressions.Operation.{Operation};
+ghost use Rattle.mp_ast.specs.declared.expressions.Expr.{Expr};
+ghost use Rattle.mp_ast.specs.declared.expressions.Expr.TheVariants as expr;
+ghost use Rattle.mp_ast.specs.declared.statements.ForHead.{ForHead};
+ghost use Rattle.mp_ast.specs.declared.statements.Arm.{Arm};
+ghost use Rattle.mp_ast.specs.declared.statements.Statement.{Statement};
+ghost use Rattle.mp_ast.specs.declared.statements.Statement.TheVariants as statement;
+ghost use Rattle.mp_ast.specs.declared.types.Index.{Index};
+ghost use Rattle.mp_ast.specs.declared.types.Section.{Section};
+ghost use Rattle.mp_ast.specs.declared.types.VariantPart.{VariantPart};
+ghost use Rattle.mp_ast.specs.declared.types.Denoter.{Denoter};
+ghost use Rattle.mp_ast.specs.declared.types.Denoter.TheVariants as denoter;
+ghost use Rattle.mp_ast.specs.declared.headings.FormalSection.{FormalSection};
+ghost use Rattle.mp_ast.specs.declared.headings.FormalSection.TheVariants as formal;
+ghost use Rattle.mp_ast.specs.declared.blocks.Block.{Block};
+ghost use Rattle.mp_ast.specs.declared.blocks.Tree.{Tree, roll-Tree};
+ghost use Rattle.mp_ast.specs.PlainExpressions.{PlainExpr, selectors_of, members_of, operations_of, plain_expr, plain_access, plain_actuals};
+ghost use Rattle.mp_ast.specs.PlainStatements.{PlainStatement, arms_of, plain_head, plain_statement, plain_statements};
+ghost use Rattle.mp_ast.specs.PlainTypes.{PlainDenoter, indices_of, variants_of, plain_denoter, plain_sections};
+ghost use Rattle.mp_ast.specs.PlainHeadings.{PlainFormalSection, formals_of, plain_formal_section};
+ghost use Rattle.mp_ast.specs.PlainTrees.{PlainTree, trees_of, plain_block, plain_tree};
+
+/// The plain form of an expression is that of its parts, put together: a clause for each variant.
+pub fn plain_expression_forms()
+    ensures number { (n : Number) → plain_expr (expr.Number n) ≡ PlainExpr.Number n }
+    ensures text { (s : CharacterString) → plain_expr (expr.Text s) ≡ PlainExpr.Text s }
+    ensures nil { (at : ℕ) → plain_expr (expr.Nil at) ≡ PlainExpr.Nil at }
+    ensures access { (a : Access Expr) → plain_expr (expr.Access a) ≡ PlainExpr.Access a.name (selectors_of plain_expr a.selectors) }
+    ensures call { (name : Identifier) (given : List (Actual Expr)) → plain_expr (expr.Call name given) ≡ PlainExpr.Call name (plain_actuals given) }
+    ensures inside { (at : ℕ) (x : Expr) → plain_expr (expr.Inside at x) ≡ PlainExpr.Inside at (plain_expr x) }
+    ensures negation { (at : ℕ) (x : Expr) → plain_expr (expr.Not at x) ≡ PlainExpr.Not at (plain_expr x) }
+    ensures set_constructor { (at : ℕ) (members : List (Member Expr)) → plain_expr (expr.Set at members) ≡ PlainExpr.Set at (members_of plain_expr members) }
+    ensures product { (first : Expr) (more : List (Operation Expr)) → plain_expr (expr.Product first more) ≡ PlainExpr.Product (plain_expr first) (operations_of plain_expr more) }
+    ensures sum { (sign : Option Sign) (first : Expr) (more : List (Operation Expr)) → plain_expr (expr.Sum sign first more) ≡ PlainExpr.Sum sign (plain_expr first) (operations_of plain_expr more) }
+    ensures relation { (left : Expr) (o : Operation Expr) → plain_expr (expr.Relation left o) ≡ PlainExpr.Relation (plain_expr left) o.at o.operator (plain_expr o.operand) }
+{}
+
+/// The plain form of a statement is that of its parts, put together: a clause for each variant.
+pub fn plain_statement_forms()
+    ensures labelled { (label : Number) (s : Statement) → plain_statement (statement.Labelled label s) ≡ PlainStatement.Labelled label (plain_statement s) }
+    ensures empty_statement { (at : ℕ) → plain_statement (statement.Empty at) ≡ PlainStatement.Empty at }
+    ensures assign { (variable : Access Expr) (at : ℕ) (value : Expr) → plain_statement (statement.Assign variable at value) ≡ PlainStatement.Assign (plain_access variable) at (plain_expr value) }
+    ensures call { (name : Identifier) (given : List (Actual Expr)) → plain_statement (statement.Call name given) ≡ PlainStatement.Call name (plain_actuals given) }
+    ensures goto_statement { (at : ℕ) (label : Number) → plain_statement (statement.Goto at label) ≡ PlainStatement.Goto at label }
+    ensures compound_statement { (at : ℕ) (statements : List Statement) → plain_statement (statement.Compound at statements) ≡ PlainStatement.Compound at (plain_statements statements) }
+    ensures if_statement { (at : ℕ) (condition : Expr) (first : Statement) → plain_statement (statement.If at condition first None) ≡ PlainStatement.If at (plain_expr condition) (plain_statement first) }
+    ensures if_with_else { (at : ℕ) (condition : Expr) (first second : Statement) → plain_statement (statement.If at condition first (Some second)) ≡ PlainStatement.IfElse at (plain_expr condition) (plain_statement first) (plain_statement second) }
+    ensures case_statement { (at : ℕ) (index : Expr) (arms : List (Arm Statement)) → plain_statement (statement.Case at index arms) ≡ PlainStatement.Case at (plain_expr index) (arms_of plain_statement arms) }
+    ensures while_statement { (at : ℕ) (condition : Expr) (body : Statement) → plain_statement (statement.While at condition body) ≡ PlainStatement.While at (plain_expr condition) (plain_statement body) }
+    ensures repeat_statement { (at : ℕ) (statements : List Statement) (condition : Expr) → plain_statement (statement.Repeat at statements condition) ≡ PlainStatement.Repeat at (plain_statements statements) (plain_expr condition) }
+    ensures for_statement { (at : ℕ) (head : ForHead) (body : Statement) → plain_statement (statement.For at head body) ≡ PlainStatement.For at (plain_head head) (plain_statement body) }
+    ensures with_statement { (at : ℕ) (records : List (Access Expr)) (body : Statement) → plain_statement (statement.With at records body) ≡ PlainStatement.With at (map plain_access records) (plain_statement body) }
+{}
+
+/// The plain form of a type denoter is that of its parts, put together: a clause for each variant.
+pub fn plain_type_forms()
+    ensures named { (name : Identifier) → plain_denoter (denoter.Named name) ≡ PlainDenoter.Named name }
+    ensures enumeration { (at : ℕ) (constants : List Identifier) → plain_denoter (denoter.Enumeration at constants) ≡ PlainDenoter.Enumeration at constants }
+    ensures subrange { (first last : Constant) → plain_denoter (denoter.Subrange first last) ≡ PlainDenoter.Subrange first last }
+    ensures pointer_type { (at : ℕ) (domain : Identifier) → plain_denoter (denoter.Pointer at domain) ≡ PlainDenoter.Pointer at domain }
+    ensures array_type { (packed : Bool) (indices : List (Index Denoter)) (component : Denoter) → plain_denoter (denoter.Array packed indices component) ≡ PlainDenoter.Array packed (indices_of plain_denoter indices) (plain_denoter component) }
+    ensures record_type { (at : ℕ) (packed : Bool) (fields : Denoter) → plain_denoter (denoter.Record at packed fields) ≡ PlainDenoter.Record at packed (plain_denoter fields) }
+    ensures set_type { (at : ℕ) (packed : Bool) (base : Denoter) → plain_denoter (denoter.Set at packed base) ≡ PlainDenoter.Set at packed (plain_denoter base) }
+    ensures file_type { (at file : ℕ) (component : Denoter) → plain_denoter (denoter.File at file component) ≡ PlainDenoter.File at file (plain_denoter component) }
+    ensures fields { (fixed : List (Section Denoter)) → plain_denoter (denoter.Fields fixed None) ≡ PlainDenoter.Fields (plain_sections fixed) }
+    ensures fields_with_variants { (fixed : List (Section Denoter)) (part : VariantPart Denoter) → plain_denoter (denoter.Fields fixed (Some part)) ≡ PlainDenoter.FieldsWithVariants (plain_sections fixed) part.at part.tag part.of (variants_of plain_denoter part.variants) }
+{}
+
+/// The plain form of a formal parameter section is that of its parts, put together: a clause for each variant.
+pub fn plain_heading_forms()
+    ensures values { (names : List Identifier) (of : Identifier) → plain_formal_section (formal.Values names of) ≡ PlainFormalSection.Values names of }
+    ensures variables { (at : ℕ) (names : List Identifier) (of : Identifier) → plain_formal_section (formal.Variables at names of) ≡ PlainFormalSection.Variables at names of }
+    ensures procedure { (at : ℕ) (name : Identifier) (own : List FormalSection) → plain_formal_section (formal.Procedure at name own) ≡ PlainFormalSection.Procedure at name (formals_of plain_formal_section own) }
+    ensures function { (at : ℕ) (name : Identifier) (own : List FormalSection) (result : Identifier) → plain_formal_section (formal.Function at name own result) ≡ PlainFormalSection.Function at name (formals_of plain_formal_section own) result }
+{}
+
+/// The plain form of a tree is that of its own block and those of the trees in it.
+pub fn plain_tree_forms()
+    ensures { (own : Block) (inside : List Tree) → plain_tree (roll-Tree (record { own = own; inside = inside })) ≡ PlainTree.TreeOf (plain_block own) (trees_of plain_tree inside) }
+{}
