@@ -13,3 +13,4 @@ pub mod PlainStatements
 pub mod PlainTypes
 pub mod PlainHeadings
 pub mod PlainTrees
+pub mod Blocks
