@@ -14,3 +14,4 @@ pub mod PlainTypes
 pub mod PlainHeadings
 pub mod PlainTrees
 pub mod Blocks
+pub mod BlocksExample

@@ -1,5 +1,5 @@
 // What the definitions of this crate promise: each function's contract is one law of them.
-ghost use Rattle.std.specs.Prelude.{◌≡◌, ℕ, Bool, List, Option, Some, None, map};
+ghost use Rattle.std.specs.Prelude.{◌≡◌, ℕ, Bool, List, [], ◌∷◌, Option, Some, None, map, codes};
 ghost use Rattle.mp_ast.specs.declared.leaves.Identifier.{Identifier};
 ghost use Rattle.mp_ast.specs.declared.leaves.Number.{Number};
 ghost use Rattle.mp_ast.specs.declared.leaves.CharacterString.{CharacterString};
@@ -29,6 +29,9 @@ ghost use Rattle.mp_ast.specs.PlainStatements.{PlainStatement, arms_of, plain_he
 ghost use Rattle.mp_ast.specs.PlainTypes.{PlainDenoter, indices_of, variants_of, plain_denoter, plain_sections};
 ghost use Rattle.mp_ast.specs.PlainHeadings.{PlainFormalSection, formals_of, plain_formal_section};
 ghost use Rattle.mp_ast.specs.PlainTrees.{PlainTree, trees_of, plain_block, plain_tree};
+ghost use Rattle.mp_ast.specs.Blocks.{tokens_of, blocks, own_tokens, index_of, token_position, position};
+ghost use Rattle.mp_ast.specs.BlocksExample as example;
+ghost use Rattle.mp_ast.specs.BlocksExample.{step, place};
 
 /// The plain form of an expression is that of its parts, put together: a clause for each variant.
 pub fn plain_expression_forms()
@@ -87,4 +90,21 @@ pub fn plain_heading_forms()
 /// The plain form of a tree is that of its own block and those of the trees in it.
 pub fn plain_tree_forms()
     ensures { (own : Block) (inside : List Tree) → plain_tree (roll-Tree (record { own = own; inside = inside })) ≡ PlainTree.TreeOf (plain_block own) (trees_of plain_tree inside) }
+{}
+
+/// A program with a procedure that is declared `forward`, one with a block in it, and two of one name: its blocks with
+/// their paths and own trees, the indices of their own tokens, and places, as counted by hand.
+pub fn blocks_of_an_example()
+    ensures paths { map (λ b. b.path) (blocks example.program) ≡ [] ∷ (step (codes "b") 1 ∷ []) ∷ (step (codes "b") 1 ∷ step (codes "a") 1 ∷ []) ∷ (step (codes "a") 1 ∷ []) ∷ (step (codes "a") 2 ∷ []) ∷ [] }
+    ensures own_trees { map (λ b. b.own) (blocks example.program) ≡ example.block_of_p ∷ example.block_of_b ∷ example.empty_block ∷ example.empty_block ∷ example.empty_block ∷ [] }
+    ensures own_tokens { map own_tokens (blocks example.program) ≡ (0 ∷ 1 ∷ 2 ∷ 3 ∷ 4 ∷ 5 ∷ 6 ∷ 7 ∷ 8 ∷ 9 ∷ 10 ∷ 20 ∷ 21 ∷ 22 ∷ 23 ∷ 26 ∷ 27 ∷ 28 ∷ 29 ∷ 32 ∷ 33 ∷ 34 ∷ 35 ∷ 36 ∷ []) ∷ (11 ∷ 12 ∷ 13 ∷ 16 ∷ 17 ∷ 18 ∷ 19 ∷ []) ∷ (14 ∷ 15 ∷ []) ∷ (24 ∷ 25 ∷ []) ∷ (30 ∷ 31 ∷ []) ∷ [] }
+    ensures tokens { tokens_of example.program ≡ 37 }
+    ensures token_of_the_program { index_of example.program (place [] 14) ≡ Some 23 }
+    ensures token_of_a_block { index_of example.program (place (step (codes "b") 1 ∷ []) 5) ≡ Some 18 }
+    ensures token_of_the_second { index_of example.program (place (step (codes "a") 2 ∷ []) 1) ≡ Some 31 }
+    ensures no_such_token { index_of example.program (place (step (codes "a") 2 ∷ []) 2) ≡ None }
+    ensures no_such_block { index_of example.program (place (step (codes "a") 3 ∷ []) 0) ≡ None }
+    ensures position { position example.text example.tokens example.program (place (step (codes "b") 1 ∷ step (codes "a") 1 ∷ []) 1) ≡ Some (record { line = 4; column = 20 }) }
+    ensures no_position { position example.text example.tokens example.program (place [] 24) ≡ None }
+    ensures end { token_position example.text example.tokens 37 ≡ record { line = 9; column = 1 } }
 {}

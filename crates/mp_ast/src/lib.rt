@@ -28,8 +28,8 @@ pub use errors::{LexError, LexErrors};
 pub use expressions::{Access, Actual, Expr, Member, Operation, Operator, Selector, Width};
 pub use headings::{FormalSection, HeadingKind, HeadingTree};
 pub use laws::{
-    plain_expression_forms, plain_heading_forms, plain_statement_forms, plain_tree_forms,
-    plain_type_forms,
+    blocks_of_an_example, plain_expression_forms, plain_heading_forms, plain_statement_forms,
+    plain_tree_forms, plain_type_forms,
 };
 pub use leaves::{CharacterString, Constant, Identifier, Number, Sign, SignKind};
 pub use lexed::Lexed;
