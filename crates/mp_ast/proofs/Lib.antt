@@ -3,3 +3,4 @@ pub mod PlainStatementLemmas
 pub mod PlainTypeLemmas
 pub mod PlainHeadingLemmas
 pub mod PlainTreeLemmas
+pub mod BlockLemmas

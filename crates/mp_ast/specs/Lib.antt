@@ -14,4 +14,5 @@ pub mod PlainTypes
 pub mod PlainHeadings
 pub mod PlainTrees
 pub mod Blocks
+pub mod WholeTrees
 pub mod BlocksExample

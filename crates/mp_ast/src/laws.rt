@@ -30,6 +30,7 @@ ghost use Rattle.mp_ast.specs.PlainTypes.{PlainDenoter, indices_of, variants_of,
 ghost use Rattle.mp_ast.specs.PlainHeadings.{PlainFormalSection, formals_of, plain_formal_section};
 ghost use Rattle.mp_ast.specs.PlainTrees.{PlainTree, trees_of, plain_block, plain_tree};
 ghost use Rattle.mp_ast.specs.Blocks.{tokens_of, blocks, own_tokens, index_of, token_position, position};
+ghost use Rattle.mp_ast.specs.WholeTrees.{IsWhole, TokensAddUp, EachTokenHasABlock};
 ghost use Rattle.mp_ast.specs.BlocksExample as example;
 ghost use Rattle.mp_ast.specs.BlocksExample.{step, place};
 
@@ -107,4 +108,10 @@ pub fn blocks_of_an_example()
     ensures position { position example.text example.tokens example.program (place (step (codes "b") 1 ∷ step (codes "a") 1 ∷ []) 1) ≡ Some (record { line = 4; column = 20 }) }
     ensures no_position { position example.text example.tokens example.program (place [] 24) ≡ None }
     ensures end { token_position example.text example.tokens 37 ≡ record { line = 9; column = 1 } }
+{}
+
+/// In a tree whose parts fit together, each token of the text is an own token of exactly one block.
+pub fn tokens_of_whole_trees()
+    ensures number { (tree : PlainTree) → IsWhole tree → TokensAddUp tree }
+    ensures each { (tree : PlainTree) → IsWhole tree → EachTokenHasABlock tree }
 {}
