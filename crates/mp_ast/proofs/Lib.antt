@@ -4,3 +4,4 @@ pub mod PlainTypeLemmas
 pub mod PlainHeadingLemmas
 pub mod PlainTreeLemmas
 pub mod BlockLemmas
+pub mod PlainExpressionInverse
