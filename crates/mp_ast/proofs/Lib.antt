@@ -5,3 +5,7 @@ pub mod PlainHeadingLemmas
 pub mod PlainTreeLemmas
 pub mod BlockLemmas
 pub mod PlainExpressionInverse
+pub mod PlainStatementInverse
+pub mod PlainTypeInverse
+pub mod PlainHeadingInverse
+pub mod PlainTreeInverse

@@ -93,6 +93,16 @@ pub fn plain_tree_forms()
     ensures { (own : Block) (inside : List Tree) → plain_tree (roll-Tree (record { own = own; inside = inside })) ≡ PlainTree.TreeOf (plain_block own) (trees_of plain_tree inside) }
 {}
 
+/// Nothing is lost in a plain form: what has the same one is the same.
+pub fn plain_forms_tell()
+    ensures expressions { (s t : Expr) → plain_expr s ≡ plain_expr t → s ≡ t }
+    ensures statements { (s t : Statement) → plain_statement s ≡ plain_statement t → s ≡ t }
+    ensures types { (s t : Denoter) → plain_denoter s ≡ plain_denoter t → s ≡ t }
+    ensures formal_sections { (s t : FormalSection) → plain_formal_section s ≡ plain_formal_section t → s ≡ t }
+    ensures own_trees { (s t : Block) → plain_block s ≡ plain_block t → s ≡ t }
+    ensures trees { (s t : Tree) → plain_tree s ≡ plain_tree t → s ≡ t }
+{}
+
 /// A program with a procedure that is declared `forward`, one with a block in it, and two of one name: its blocks with
 /// their paths and own trees, the indices of their own tokens, and places, as counted by hand.
 pub fn blocks_of_an_example()
