@@ -2,7 +2,6 @@
 -- where parts stand in a list, each of them is made again.
 use Rattle.std.proofs.Common.{◌≡◌, ℕ, List, [], ◌∷◌, map, Option, None, Some, refl, sym, ap, ◌∙◌, subst}
 use Rattle.mp_ast.specs.declared.leaves.Identifier.{Identifier}
-use Rattle.mp_ast.specs.declared.leaves.Sign.{Sign}
 use Rattle.mp_ast.specs.declared.expressions.Operator.{Operator}
 use Rattle.mp_ast.specs.declared.expressions.Access.{Access}
 use Rattle.mp_ast.specs.declared.expressions.Width.{Width}

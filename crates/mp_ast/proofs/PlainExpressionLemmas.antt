@@ -12,7 +12,7 @@ use Rattle.mp_ast.specs.declared.expressions.Member.{Member}
 use Rattle.mp_ast.specs.declared.expressions.Operation.{Operation}
 use Rattle.mp_ast.specs.declared.expressions.Selector.{Selector}
 use Rattle.mp_ast.specs.declared.expressions.Selector.TheVariants as selector
-use Rattle.mp_ast.specs.declared.expressions.Expr.{Expr, fold-Expr, fold-roll-Expr, map-Expr}
+use Rattle.mp_ast.specs.declared.expressions.Expr.{Expr, fold-roll-Expr}
 use Rattle.mp_ast.specs.declared.expressions.Expr.TheOpen.{Expr-F}
 use Rattle.mp_ast.specs.declared.expressions.Expr.TheVariants as tree
 use Rattle.mp_ast.specs.PlainExpressions as plain

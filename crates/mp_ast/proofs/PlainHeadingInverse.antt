@@ -1,5 +1,5 @@
 -- Nothing of a heading is lost in its plain form: it can be made again from that. By induction over formal sections.
-use Rattle.std.proofs.Common.{◌≡◌, ℕ, List, [], ◌∷◌, map, refl, sym, ap, ◌∙◌, subst}
+use Rattle.std.proofs.Common.{◌≡◌, List, [], ◌∷◌, map, refl, sym, ap, ◌∙◌, subst}
 use Rattle.std.proofs.lemmas.List.{map-id}
 use Rattle.mp_ast.specs.declared.headings.FormalSection.{FormalSection, roll-FormalSection, map-FormalSection, ind-FormalSection}
 use Rattle.mp_ast.specs.declared.headings.FormalSection.TheOpen.{FormalSection-F}

@@ -1,14 +1,12 @@
 -- Nothing of a statement is lost in its plain form: it can be made again from that. By induction over the statement;
 -- where parts stand in a list, each of them is made again.
-use Rattle.std.proofs.Common.{◌≡◌, ℕ, List, [], ◌∷◌, map, Option, None, Some, refl, sym, ap, ◌∙◌, subst}
+use Rattle.std.proofs.Common.{◌≡◌, List, [], ◌∷◌, map, None, Some, refl, sym, ap, ◌∙◌, subst}
 use Rattle.std.proofs.lemmas.List.{map-id}
 use Rattle.mp_ast.specs.declared.leaves.Constant.{Constant}
 use Rattle.mp_ast.specs.declared.expressions.Access.{Access}
 use Rattle.mp_ast.specs.declared.expressions.Actual.{Actual}
 use Rattle.mp_ast.specs.declared.expressions.Selector.{Selector}
-use Rattle.mp_ast.specs.declared.expressions.Selector.TheVariants as selector
 use Rattle.mp_ast.specs.declared.expressions.Expr.{Expr}
-use Rattle.mp_ast.specs.declared.statements.Direction.{Direction}
 use Rattle.mp_ast.specs.declared.statements.ForHead.{ForHead}
 use Rattle.mp_ast.specs.declared.statements.Arm.{Arm}
 use Rattle.mp_ast.specs.declared.statements.Statement.{Statement, roll-Statement, map-Statement, ind-Statement}

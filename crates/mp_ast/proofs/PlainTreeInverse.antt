@@ -1,8 +1,6 @@
 -- Nothing of a tree is lost in its plain form: it can be made again from that. By induction over the tree.
-use Rattle.std.proofs.Common.{◌≡◌, ℕ, List, [], ◌∷◌, map, refl, sym, ap, ◌∙◌, subst}
-use Rattle.mp_ast.specs.declared.leaves.Identifier.{Identifier}
+use Rattle.std.proofs.Common.{◌≡◌, List, [], ◌∷◌, map, refl, sym, ap, ◌∙◌, subst}
 use Rattle.mp_ast.specs.declared.headings.HeadingTree.{HeadingTree}
-use Rattle.mp_ast.specs.declared.statements.Statement.{Statement}
 use Rattle.mp_ast.specs.declared.types.Denoter.{Denoter}
 use Rattle.mp_ast.specs.declared.types.Section.{Section}
 use Rattle.mp_ast.specs.declared.blocks.TypeDefinition.{TypeDefinition}
@@ -12,9 +10,7 @@ use Rattle.mp_ast.specs.declared.blocks.StatementPart.TheVariants.{Compound}
 use Rattle.mp_ast.specs.declared.blocks.Block.{Block}
 use Rattle.mp_ast.specs.declared.blocks.Tree.{Tree, roll-Tree, map-Tree, ind-Tree}
 use Rattle.mp_ast.specs.declared.blocks.Tree.TheOpen.{Tree-F}
-use Rattle.mp_ast.specs.PlainStatements.{plain_statements}
-use Rattle.mp_ast.specs.PlainTypes.{plain_denoter, plain_sections}
-use Rattle.mp_ast.specs.PlainHeadings.{plain_heading}
+use Rattle.mp_ast.specs.PlainTypes.{plain_sections}
 use Rattle.mp_ast.specs.PlainTrees as plain
 use Rattle.mp_ast.specs.PlainTrees.{PlainTypeDefinition, PlainDeclaration, PlainStatementPart, PlainBlock, PlainTree, PlainTrees, plain_type_definition, plain_declaration, plain_statement_part, plain_block, trees_of, plain_tree}
 use Rattle.mp_ast.proofs.PlainStatementInverse.{statement_list, same_statements}

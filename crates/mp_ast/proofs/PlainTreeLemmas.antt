@@ -2,7 +2,6 @@
 use Rattle.std.proofs.Common.{◌≡◌, List, [], ◌∷◌, map, refl, ap, ◌∙◌}
 use Rattle.mp_ast.specs.declared.blocks.Block.{Block}
 use Rattle.mp_ast.specs.declared.blocks.Tree.{Tree, roll-Tree, fold-roll-Tree}
-use Rattle.mp_ast.specs.declared.blocks.Tree.TheOpen.{Tree-F}
 use Rattle.mp_ast.specs.PlainTrees as plain
 use Rattle.mp_ast.specs.PlainTrees.{PlainTree, trees_of, plain_block, itself, layer_tree, plain_tree}
 

@@ -1,6 +1,6 @@
 -- Nothing of a type denoter is lost in its plain form: it can be made again from that. By induction over the denoter;
 -- where parts stand in a list, each of them is made again.
-use Rattle.std.proofs.Common.{◌≡◌, ℕ, Bool, List, [], ◌∷◌, map, Option, None, Some, refl, sym, ap, ◌∙◌, subst}
+use Rattle.std.proofs.Common.{◌≡◌, ℕ, List, [], ◌∷◌, map, Option, None, Some, refl, sym, ap, ◌∙◌, subst}
 use Rattle.std.proofs.lemmas.List.{map-id}
 use Rattle.mp_ast.specs.declared.leaves.Identifier.{Identifier}
 use Rattle.mp_ast.specs.declared.leaves.Constant.{Constant}

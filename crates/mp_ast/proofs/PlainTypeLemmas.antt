@@ -1,6 +1,6 @@
 -- The plain form of a type denoter is the plain forms of its parts, put together. Each variant's equation follows from
 -- that of the fold; where the parts stand in a list, a fold's `map` over it and the plain form of each are one pass.
-use Rattle.std.proofs.Common.{◌≡◌, ℕ, Bool, List, [], ◌∷◌, map, Option, None, Some, refl, sym, ap, ◌∙◌}
+use Rattle.std.proofs.Common.{◌≡◌, ℕ, Bool, List, [], ◌∷◌, map, None, Some, refl, sym, ap, ◌∙◌}
 use Rattle.mp_ast.specs.declared.leaves.Identifier.{Identifier}
 use Rattle.mp_ast.specs.declared.leaves.Constant.{Constant}
 use Rattle.mp_ast.specs.declared.types.Index.{Index}
