@@ -9,3 +9,5 @@ pub mod PlainStatementInverse
 pub mod PlainTypeInverse
 pub mod PlainHeadingInverse
 pub mod PlainTreeInverse
+pub mod Counting
+pub mod CountingExpressions
