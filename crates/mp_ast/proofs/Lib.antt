@@ -11,3 +11,6 @@ pub mod PlainHeadingInverse
 pub mod PlainTreeInverse
 pub mod Counting
 pub mod CountingExpressions
+pub mod CountingStatements
+pub mod CountingTypes
+pub mod CountingHeadings
