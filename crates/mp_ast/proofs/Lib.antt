@@ -14,3 +14,4 @@ pub mod CountingExpressions
 pub mod CountingStatements
 pub mod CountingTypes
 pub mod CountingHeadings
+pub mod CountingBlocks

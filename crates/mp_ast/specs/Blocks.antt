@@ -20,7 +20,7 @@ pub record Nested : Type 0 where
   pub step : PathStep
   pub semicolon : ℕ
 
-abbrev is_block : DeclaredBody → Bool
+abbrev pub is_block : DeclaredBody → Bool
 is_block body.Block = true
 is_block (body.Forward at) = false
 
