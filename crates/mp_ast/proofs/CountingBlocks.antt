@@ -16,7 +16,7 @@ use Rattle.mp_ast.specs.PlainTrees.{PlainDeclaration, PlainTree, PlainTrees, pla
 use Rattle.mp_ast.specs.Blocks.{nested_after, nested_in, is_block, tokens_of, tokens_of_all}
 use Rattle.mp_ast.specs.WholeTrees.{IsWhole, AreWhole}
 use Rattle.mp_ast.proofs.PlainTreeLemmas.{plain_tree-roll}
-use Rattle.mp_ast.proofs.Counting.{Counted, Counts, nothing, next, made, either, maybe, repeated, one, row, opens, ordinal, still, onward, identifier_counts, number_counts, constant_counts}
+use Rattle.mp_ast.proofs.Counting.{Counted, Counts, stands, nothing, next, made, either, maybe, repeated, one, row, opens, ordinal, still, onward, identifier_counts, number_counts, constant_counts}
 use Rattle.mp_ast.proofs.CountingStatements.{sequence_behind_counts}
 use Rattle.mp_ast.proofs.CountingTypes.{denoter_counts, section_counts}
 use Rattle.mp_ast.proofs.CountingHeadings.{heading_counts}
@@ -97,3 +97,85 @@ declarations_read each i j (d ∷ ds) (one_more x xs k m h t) =
           one_declared d.declaration.heading d.declaration.semicolon d.declaration.body d.block ds here.fits earlier tokens low m.at
           (omega (arith, a, here.before)) here.behind (λ earlier low c. rest.whole earlier tokens low c b);
     }
+
+deeper_reads :
+    {A : Type 0} (r : Rule A) (P : Input → A → Input → Type 0) → ((i : Input) (x : A) (j : Input) → r i x j → P i x j) →
+    (depth : ℕ) (i : Input) (x : A) (j : Input) → deeper depth r i x j → P i x j
+deeper_reads r P each zero i x j h = elim h [ ]
+deeper_reads r P each (suc depth) i x j h = each i x j h
+
+deeper_declarations_read :
+    (r : Rule Declared) (depth : ℕ) {i j : Input} {ds : List Declared} → Many (deeper depth r) j ds i →
+    ((i : Input) (d : Declared) (j : Input) → r i d j → DeclarationReads i d j) → DeclarationsRead i ds j
+deeper_declarations_read r depth {i} {j} {ds} h each = declarations_read (deeper_reads r DeclarationReads each depth) i j ds h
+
+counted_by : {A : Type 0} {r : Rule A} → Counts r → {i : Input} {x : A} {j : Input} → r i x j → Counted i j
+counted_by c {i} {x} {j} h = c.counted i x j h
+
+-- ---- blocks
+
+-- What a block reads. Its own tokens may be more than are read: those of the program's block are.
+record BlockReads (i : Input) (b : Block × List Tree) (j : Input) : Type 0 where
+  pub own : j.at ≡ b.0.tokens
+  pub tokens : j.at + length j.rest + count b.1 ≡ i.at + length i.rest
+  pub whole : (tokens : ℕ) → j.at ≤ tokens → AreWhole tokens 0 (nested_in (plain_block b.0)) (trees_of plain_tree b.1)
+
+module _ (limits : Limits) (nested : Rule Tree) (reads : (i : Input) (x : Tree) (j : Input) → nested i x j → NestedReads i x j) where
+  forward_reads : (i : Input) (at : ℕ) (x : DeclaredBody × List Tree) (j : Input) → Counted i j → (body.Forward at, []) ≡ x → BodyReads i x j
+  forward_reads i at x j c e = subst (λ y. BodyReads i y j) e (record { at = c.at; tokens = let t = c.tokens in omega (arith, t); fits = tt })
+
+  block_reads : (i : Input) (t : Tree) (x : DeclaredBody × List Tree) (j : Input) → NestedReads i t j → (body.Block, t ∷ []) ≡ x → BodyReads i x j
+  block_reads i t x j n e =
+      subst (λ y. BodyReads i y j) e (record { at = omega (arith, n.at); tokens = omega (arith, n.at, n.tokens); fits = n.whole })
+
+  declaration_reads :
+      (i m : Input) (heading : HeadingTree) (semicolon : ℕ) (x : DeclaredBody × List Tree) (k n j : Input) (d : Declared) →
+      Counted i m → m.at ≡ semicolon → Counted m k → m.at + 1 ≡ k.at → BodyReads k x n → Counted n j →
+      record { declaration = record { heading = heading; semicolon = semicolon; body = x.0 }; block = x.1 } ≡ d → DeclarationReads i d j
+  declaration_reads i m heading semicolon x k n j d a s b t r c e =
+      subst (λ d. DeclarationReads i d j) e
+      (record {
+        before = omega (arith, a.at, s);
+        behind = omega (arith, s, t, r.at, c.at);
+        tokens = omega (arith, a.tokens, b.tokens, r.tokens, c.tokens);
+        fits = r.fits;
+      })
+
+  block_done : {i j k : Input} {b c : Block × List Tree} → b ≡ c → j ≡ k → BlockReads i b j → BlockReads i c k
+  block_done {i} {j} {k} {b} {c} e f r = subst (λ d. BlockReads i d k) e (subst (BlockReads i b) f r)
+
+  block_with_reads :
+      (program : Option ProgramHeading) (depth : ℕ) (i : Input) (b : Block × List Tree) (j : Input) →
+      block_with limits program depth nested i b j → BlockReads i b j
+  block_with_reads program depth i b j h =
+      let h1 = h.3 in
+      let h2 = h1.3 in
+      let h3 = h2.3 in
+      let h4 = h3.3 in
+      let h5 = h4.3 in
+      let h6 = h5.3 in
+      let labels = counted_by (either (next one (λ word. next (row one number_counts) (λ labels. next one (λ end. nothing)))) nothing) h.2 in
+      let constant = next identifier_counts (λ name. next one (λ equal. next constant_counts (λ value. next one (λ end. nothing)))) in
+      let constants = counted_by (either (next one (λ word. next constant (λ first. next (repeated constant) (λ more. nothing)))) nothing) h1.2 in
+      let definition = next identifier_counts (λ name. next one (λ equal. next (denoter_counts limits.openers) (λ of. next one (λ end. nothing)))) in
+      let types = counted_by (either (next one (λ word. next definition (λ first. next (repeated definition) (λ more. nothing)))) nothing) h2.2 in
+      let variable = next (section_counts (denoter_counts limits.openers)) (λ found. next one (λ end. nothing)) in
+      let variables = counted_by (either (next one (λ word. next variable (λ first. next (repeated variable) (λ more. nothing)))) nothing) h3.2 in
+      let declared = deeper_declarations_read _ depth h4.2 (λ i d j h.
+      let g = h.3.3.3 in
+      let heading = counted_by (heading_counts limits.openers) h.3.2 in
+      let from = subst (λ m. Counted m h.3.1) h.2.1 heading in
+      declaration_reads i h.3.1 h.3.0 h.3.3.0 g.0 h.3.3.1 g.1 j d
+      (record { at = from.at; tokens = from.tokens }) h.3.3.2.1 (counted_by one h.3.3.2) (sym h.3.3.2.2)
+      (⊎_elim
+      (λ f. forward_reads h.3.3.1 f.0 g.0 g.1 (onward h.3.3.1 f.1 g.1 (counted_by one f.2) (stands f.1 g.1 f.3.1)) f.3.0)
+      (λ f. block_reads h.3.3.1 f.0 g.0 g.1 (subst (NestedReads h.3.3.1 f.0) f.3.1 (reads h.3.3.1 f.0 f.1 f.2)) f.3.0)
+      g.2)
+      (onward g.1 g.3.1 j (counted_by one g.3.2) (stands g.3.1 j g.3.3.1)) g.3.3.0) in
+      let statements = counted_by (next (opens limits.openers _) (λ at. next (sequence_behind_counts limits.openers) (λ found. next one (λ end. nothing)))) h5.2 in
+      block_done h6.3.0 (h6.2.1 ∙ h6.3.1)
+      (record {
+        own = h6.2.0;
+        tokens = omega (arith, labels.tokens, constants.tokens, types.tokens, variables.tokens, declared.tokens, statements.tokens);
+        whole = λ tokens a. declared.whole [] tokens 0 (omega arith) (omega (arith, a, statements.at));
+      })
