@@ -11,7 +11,7 @@ use Rattle.mp_ast.specs.declared.blocks.Block.{Block}
 use Rattle.mp_ast.specs.declared.blocks.Tree.{Tree, roll-Tree}
 use Rattle.mp_ast.specs.Rules.{Input, Rule, Many, no_more, one_more, joined, deeper, many}
 use Rattle.mp_ast.specs.BlockGrammar.{Limits, Declared, block_with, nested_block, program}
-use Rattle.mp_ast.specs.Programs.{Derives}
+use Rattle.mp_ast.specs.Programs.{Derives, start_of}
 use Rattle.mp_ast.specs.PlainTrees.{PlainDeclaration, PlainTree, PlainTrees, plain_declaration, plain_block, trees_of, plain_tree}
 use Rattle.mp_ast.specs.Blocks.{nested_after, nested_in, is_block, tokens_of, tokens_of_all}
 use Rattle.mp_ast.specs.WholeTrees.{IsWhole, AreWhole}
@@ -154,28 +154,93 @@ module _ (limits : Limits) (nested : Rule Tree) (reads : (i : Input) (x : Tree) 
       let h4 = h3.3 in
       let h5 = h4.3 in
       let h6 = h5.3 in
-      let labels = counted_by (either (next one (λ word. next (row one number_counts) (λ labels. next one (λ end. nothing)))) nothing) h.2 in
+      let labels = counted_by (either (next one (λ word. next (row one number_counts) (λ labels. next one (λ end. nothing)))) nothing) {j = h.1} h.2 in
       let constant = next identifier_counts (λ name. next one (λ equal. next constant_counts (λ value. next one (λ end. nothing)))) in
-      let constants = counted_by (either (next one (λ word. next constant (λ first. next (repeated constant) (λ more. nothing)))) nothing) h1.2 in
+      let constants = counted_by (either (next one (λ word. next constant (λ first. next (repeated constant) (λ more. nothing)))) nothing) {j = h1.1} h1.2 in
       let definition = next identifier_counts (λ name. next one (λ equal. next (denoter_counts limits.openers) (λ of. next one (λ end. nothing)))) in
-      let types = counted_by (either (next one (λ word. next definition (λ first. next (repeated definition) (λ more. nothing)))) nothing) h2.2 in
+      let types = counted_by (either (next one (λ word. next definition (λ first. next (repeated definition) (λ more. nothing)))) nothing) {j = h2.1} h2.2 in
       let variable = next (section_counts (denoter_counts limits.openers)) (λ found. next one (λ end. nothing)) in
-      let variables = counted_by (either (next one (λ word. next variable (λ first. next (repeated variable) (λ more. nothing)))) nothing) h3.2 in
+      let variables = counted_by (either (next one (λ word. next variable (λ first. next (repeated variable) (λ more. nothing)))) nothing) {j = h3.1} h3.2 in
       let declared = deeper_declarations_read _ depth h4.2 (λ i d j h.
       let g = h.3.3.3 in
       let heading = counted_by (heading_counts limits.openers) h.3.2 in
       let from = subst (λ m. Counted m h.3.1) h.2.1 heading in
       declaration_reads i h.3.1 h.3.0 h.3.3.0 g.0 h.3.3.1 g.1 j d
-      (record { at = from.at; tokens = from.tokens }) h.3.3.2.1 (counted_by one h.3.3.2) (sym h.3.3.2.2)
+      (record { at = from.at; tokens = from.tokens }) h.3.3.2.1 (counted_by one {j = h.3.3.1} h.3.3.2) (sym h.3.3.2.2)
       (⊎_elim
-      (λ f. forward_reads h.3.3.1 f.0 g.0 g.1 (onward h.3.3.1 f.1 g.1 (counted_by one f.2) (stands f.1 g.1 f.3.1)) f.3.0)
+      (λ f. forward_reads h.3.3.1 f.0 g.0 g.1 (onward h.3.3.1 f.1 g.1 (counted_by one {j = f.1} f.2) (stands f.1 g.1 f.3.1)) f.3.0)
       (λ f. block_reads h.3.3.1 f.0 g.0 g.1 (subst (NestedReads h.3.3.1 f.0) f.3.1 (reads h.3.3.1 f.0 f.1 f.2)) f.3.0)
       g.2)
-      (onward g.1 g.3.1 j (counted_by one g.3.2) (stands g.3.1 j g.3.3.1)) g.3.3.0) in
-      let statements = counted_by (next (opens limits.openers _) (λ at. next (sequence_behind_counts limits.openers) (λ found. next one (λ end. nothing)))) h5.2 in
+      (onward g.1 g.3.1 j (counted_by one {j = g.3.1} g.3.2) (stands g.3.1 j g.3.3.1)) g.3.3.0) in
+      let statements = counted_by (next (opens limits.openers _) (λ at. next (sequence_behind_counts limits.openers) (λ found. next one (λ end. nothing)))) {j = h5.1} h5.2 in
       block_done h6.3.0 (h6.2.1 ∙ h6.3.1)
       (record {
         own = h6.2.0;
         tokens = omega (arith, labels.tokens, constants.tokens, types.tokens, variables.tokens, declared.tokens, statements.tokens);
         whole = λ tokens a. declared.whole [] tokens 0 (omega arith) (omega (arith, a, statements.at));
       })
+
+-- ---- nested blocks and programs
+
+-- a block whose tokens are counted from 0, as a tree
+whole_tree :
+    (i : Input) (own : Block) (inside : List Tree) (j : Input) (x : Tree) → i.at ≡ 0 → BlockReads i (own, inside) j →
+    roll-Tree (record { own = own; inside = inside }) ≡ x →
+    (length j.rest + tokens_of (plain_tree x) ≡ length i.rest) × IsWhole (plain_tree x)
+whole_tree i own inside j x from r e =
+    let same = sym (plain_tree-roll own inside) ∙ ap plain_tree e in
+    let last : j.at ≡ own.tokens = r.own in
+    let tokens = r.tokens in
+    subst (λ t. (length j.rest + tokens_of t ≡ length i.rest) × IsWhole t) same
+    (omega (arith, from, last, tokens), r.whole own.tokens (omega (arith, last)))
+
+nested_reads : (limits : Limits) (depth : ℕ) (i : Input) (x : Tree) (j : Input) → nested_block limits depth i x j → NestedReads i x j
+unfolding nested_block
+nested_reads limits zero i x j h = elim h [ ]
+nested_reads limits (suc depth) i x j h =
+    let b = h.1 in
+    let r = block_with_reads limits (nested_block limits depth) (nested_reads limits depth) None depth (record i { at = 0 }) b.0 b.1 b.2 in
+    let w = whole_tree (record i { at = 0 }) b.0.0 b.0.1 b.1 x refl r b.3.0 in
+    let rest : length j.rest ≡ length b.1.rest = ap (λ k. length k.rest) h.2 ∙ sym (ap (λ k. length k.rest) b.3.1) in
+    record { at = ap (λ k. k.at) h.2; tokens = ap (λ n. n + tokens_of (plain_tree x)) rest ∙ w.0; whole = w.1 }
+
+-- a block that is read from later on to earlier, and its end
+block_in_program :
+    (i m n j : Input) (b : Block × List Tree) (tokens : ℕ) → Counted i m → BlockReads m b n → Counted n j → j.at ≡ tokens →
+    BlockReads i (record b.0 { tokens = tokens }, b.1) j
+block_in_program i m n j b tokens before r behind e =
+    record {
+      own = e;
+      tokens = omega (arith, before.tokens, r.tokens, behind.tokens);
+      whole = λ t a. r.whole t (omega (arith, behind.at, a));
+    }
+
+program_reads :
+    (limits : Limits) (i : Input) (x : Tree) (j : Input) → i.at ≡ 0 → program limits i x j →
+    (length j.rest + tokens_of (plain_tree x) ≡ length i.rest) × IsWhole (plain_tree x)
+program_reads limits i x j from h =
+    let h1 = h.3 in
+    let h2 = h1.3 in
+    let h3 = h2.3 in
+    let h4 = h3.3 in
+    let h5 = h4.3 in
+    let h6 = h5.3 in
+    let word = counted_by one h.2 in
+    let name = counted_by identifier_counts h1.2 in
+    let parameters = counted_by (either (next one (λ at. next (row one identifier_counts) (λ names. next one (λ end. nothing)))) nothing) h2.2 in
+    let semicolon = counted_by one h3.2 in
+    let heading = onward i h.1 h3.1 word (onward h.1 h1.1 h3.1 name (onward h1.1 h2.1 h3.1 parameters semicolon)) in
+    let block = block_with_reads limits (nested_block limits limits.depth) (nested_reads limits limits.depth) _ limits.depth h3.1 h4.0 h4.1 h4.2 in
+    let end : h5.1 ≡ j = h6.2.1 ∙ h6.3.1 in
+    let dot = onward h4.1 h5.1 j (counted_by one h5.2) (stands h5.1 j end) in
+    let last : j.at ≡ h6.0 = sym (ap (λ k. k.at) end) ∙ h6.2.0 in
+    whole_tree i _ h4.0.1 j x from (block_in_program i h3.1 h4.1 j h4.0 h6.0 heading block dot last) h6.3.0
+
+pub derived_is_whole : (limits : Limits) (kinds : List TokenKind) (tree : Tree) → Derives limits kinds tree → IsWhole (plain_tree tree)
+derived_is_whole limits kinds tree h = (program_reads limits (start_of kinds) tree h.0 refl h.1).1
+
+pub derived_tokens : (limits : Limits) (kinds : List TokenKind) (tree : Tree) → Derives limits kinds tree → tokens_of (plain_tree tree) ≡ length kinds
+derived_tokens limits kinds tree h =
+    let read = (program_reads limits (start_of kinds) tree h.0 refl h.1).0 in
+    let none : length h.0.rest ≡ 0 = ap length h.2 in
+    omega (arith, read, none)

@@ -1,5 +1,6 @@
 // What the definitions of this crate promise: each function's contract is one law of them.
-ghost use Rattle.std.specs.Prelude.{◌≡◌, ℕ, Bool, List, [], ◌∷◌, Option, Some, None, map, codes};
+ghost use Rattle.std.specs.Prelude.{◌≡◌, ℕ, Bool, List, [], ◌∷◌, Option, Some, None, length, map, codes};
+ghost use Rattle.mp_ast.specs.declared.tokens.TokenKind.{TokenKind};
 ghost use Rattle.mp_ast.specs.declared.leaves.Identifier.{Identifier};
 ghost use Rattle.mp_ast.specs.declared.leaves.Number.{Number};
 ghost use Rattle.mp_ast.specs.declared.leaves.CharacterString.{CharacterString};
@@ -24,6 +25,8 @@ ghost use Rattle.mp_ast.specs.declared.headings.FormalSection.{FormalSection};
 ghost use Rattle.mp_ast.specs.declared.headings.FormalSection.TheVariants as formal;
 ghost use Rattle.mp_ast.specs.declared.blocks.Block.{Block};
 ghost use Rattle.mp_ast.specs.declared.blocks.Tree.{Tree, roll-Tree};
+ghost use Rattle.mp_ast.specs.BlockGrammar.{Limits};
+ghost use Rattle.mp_ast.specs.Programs.{Derives};
 ghost use Rattle.mp_ast.specs.PlainExpressions.{PlainExpr, selectors_of, members_of, operations_of, plain_expr, plain_access, plain_actuals};
 ghost use Rattle.mp_ast.specs.PlainStatements.{PlainStatement, arms_of, plain_head, plain_statement, plain_statements};
 ghost use Rattle.mp_ast.specs.PlainTypes.{PlainDenoter, indices_of, variants_of, plain_denoter, plain_sections};
@@ -103,6 +106,20 @@ pub fn plain_forms_tell()
     ensures trees { (s t : Tree) → plain_tree s ≡ plain_tree t → s ≡ t }
 {}
 
+/// In a tree whose parts fit together, each token of the text is an own token of exactly one block.
+pub fn tokens_of_whole_trees()
+    ensures number { (tree : PlainTree) → IsWhole tree → TokensAddUp tree }
+    ensures each { (tree : PlainTree) → IsWhole tree → EachTokenHasABlock tree }
+{}
+
+/// The parts of a program's tree fit together, and it has the tokens of its text: each token is an own token of exactly
+/// one block.
+pub fn trees_of_programs_are_whole()
+    ensures whole { (limits : Limits) (kinds : List TokenKind) (tree : Tree) → Derives limits kinds tree → IsWhole (plain_tree tree) }
+    ensures tokens { (limits : Limits) (kinds : List TokenKind) (tree : Tree) → Derives limits kinds tree → tokens_of (plain_tree tree) ≡ length kinds }
+    ensures each { (limits : Limits) (kinds : List TokenKind) (tree : Tree) → Derives limits kinds tree → EachTokenHasABlock (plain_tree tree) }
+{}
+
 /// A program with a procedure that is declared `forward`, one with a block in it, and two of one name: its blocks with
 /// their paths and own trees, the indices of their own tokens, and places, as counted by hand.
 pub fn blocks_of_an_example()
@@ -118,10 +135,4 @@ pub fn blocks_of_an_example()
     ensures position { position example.text example.tokens example.program (place (step (codes "b") 1 ∷ step (codes "a") 1 ∷ []) 1) ≡ Some (record { line = 4; column = 20 }) }
     ensures no_position { position example.text example.tokens example.program (place [] 24) ≡ None }
     ensures end { token_position example.text example.tokens 37 ≡ record { line = 9; column = 1 } }
-{}
-
-/// In a tree whose parts fit together, each token of the text is an own token of exactly one block.
-pub fn tokens_of_whole_trees()
-    ensures number { (tree : PlainTree) → IsWhole tree → TokensAddUp tree }
-    ensures each { (tree : PlainTree) → IsWhole tree → EachTokenHasABlock tree }
 {}

@@ -31,6 +31,7 @@ pub use headings::{FormalSection, HeadingKind, HeadingTree};
 pub use laws::{
     blocks_of_an_example, plain_expression_forms, plain_forms_tell, plain_heading_forms,
     plain_statement_forms, plain_tree_forms, plain_type_forms, tokens_of_whole_trees,
+    trees_of_programs_are_whole,
 };
 pub use leaves::{CharacterString, Constant, Identifier, Number, Sign, SignKind};
 pub use lexed::Lexed;
