@@ -164,12 +164,12 @@ module _ (limits : Limits) (nested : Rule Tree) (reads : (i : Input) (x : Tree) 
       let declared = deeper_declarations_read _ depth h4.2 (λ i d j h.
       let g = h.3.3.3 in
       let heading = counted_by (heading_counts limits.openers) h.3.2 in
-      let from = subst (λ m. Counted m h.3.1) h.2.1 heading in
+      let from = subst (λ m. Counted m h.3.1) {x = h.1} h.2.1 heading in
       declaration_reads i h.3.1 h.3.0 h.3.3.0 g.0 h.3.3.1 g.1 j d
       (record { at = from.at; tokens = from.tokens }) h.3.3.2.1 (counted_by one {j = h.3.3.1} h.3.3.2) (sym h.3.3.2.2)
       (⊎_elim
       (λ f. forward_reads h.3.3.1 f.0 g.0 g.1 (onward h.3.3.1 f.1 g.1 (counted_by one {j = f.1} f.2) (stands f.1 g.1 f.3.1)) f.3.0)
-      (λ f. block_reads h.3.3.1 f.0 g.0 g.1 (subst (NestedReads h.3.3.1 f.0) f.3.1 (reads h.3.3.1 f.0 f.1 f.2)) f.3.0)
+      (λ f. block_reads h.3.3.1 f.0 g.0 g.1 (subst (NestedReads h.3.3.1 f.0) {x = f.1} f.3.1 (reads h.3.3.1 f.0 f.1 f.2)) f.3.0)
       g.2)
       (onward g.1 g.3.1 j (counted_by one {j = g.3.1} g.3.2) (stands g.3.1 j g.3.3.1)) g.3.3.0) in
       let statements = counted_by (next (opens limits.openers _) (λ at. next (sequence_behind_counts limits.openers) (λ found. next one (λ end. nothing)))) {j = h5.1} h5.2 in

@@ -15,3 +15,4 @@ pub mod CountingStatements
 pub mod CountingTypes
 pub mod CountingHeadings
 pub mod CountingBlocks
+pub mod PathLemmas

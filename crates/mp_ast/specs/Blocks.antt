@@ -2,7 +2,7 @@
 -- one declaration; a `forward` declaration has none. Each token belongs to one block: a heading with its `;` to the
 -- enclosing block, and what follows up to the nested block's `end` to the nested one.
 use Rattle.std.specs.Prelude.{ℕ, ◌+◌, Bool, true, false, ◌&&◌, List, [], ◌∷◌, ◌++◌, Option, Some, None, map, filter, find, count_by, length, slice_get, nat_eq, nat_le, nat_lt, bytes_eq, if◌then◌else◌, option_map, option_and_then}
-use Rattle.std.specs.List.{range_with_len}
+use Rattle.std.specs.List.{range_with_len, IsDistinct}
 use Rattle.mp_base.specs.declared.path.PathStep.{PathStep}
 use Rattle.mp_base.specs.declared.place.At.{At}
 use Rattle.mp_base.specs.declared.place.Place.{Place}
@@ -93,11 +93,18 @@ own_tokens block = map (index_in block) (range_with_len 0 block.own.tokens)
 
 -- ---- places
 
-abbrev same_path : List PathStep → List PathStep → Bool
+abbrev pub same_step : PathStep → PathStep → Bool
+same_step s t = bytes_eq s.name t.name && nat_eq s.nth t.nth
+
+abbrev pub same_path : List PathStep → List PathStep → Bool
 same_path [] [] = true
-same_path (s ∷ path) (t ∷ other) = bytes_eq s.name t.name && nat_eq s.nth t.nth && same_path path other
 same_path [] (t ∷ other) = false
 same_path (s ∷ path) [] = false
+same_path (s ∷ path) (t ∷ other) = same_step s t && same_path path other
+
+-- no two blocks have the same path
+abbrev pub PathsDiffer : PlainTree → Type 0
+PathsDiffer program = IsDistinct (λ a b. same_path a.path b.path) (blocks program)
 
 -- the block with a path
 abbrev pub block_at : PlainTree → List PathStep → Option PlacedBlock
