@@ -1,15 +1,15 @@
 -- No two blocks of a tree have the same path: those in one nested block have its step, and the steps to the blocks that
 -- stand directly in a block differ, since a step counts the earlier ones of its name.
 use Rattle.std.proofs.Common.{◌≡◌, ℕ, suc, ◌+◌, ◌≤◌, ◌<◌, ◌⊎◌, inl, inr, ⊎_elim, Bool, true, false, ◌&&◌, cond, List, [], ◌∷◌, ◌++◌, count_by, nat_eq, filter, refl, sym, ap, ◌∙◌, subst, append_assoc, arith}
-use Rattle.std.specs.Prelude.{bytes_eq, ⊤}
+use Rattle.std.specs.Prelude.{Some, bytes_eq, find}
 use Rattle.std.specs.List.{AllByRecursion, IsDistinct}
-use Rattle.std.proofs.lemmas.Bool.{cases_Bool, eq-eqb, eqb-false, false_from_ne_true, eqb-true}
+use Rattle.std.proofs.lemmas.Bool.{cases_Bool, cond-true, cond-false, eq-eqb, false_from_ne_true, eqb-true}
 use Rattle.std.proofs.lemmas.List.{append-nil}
 use Rattle.std.proofs.lemmas.List.Sums.{sum_by-cons}
 use Rattle.std.proofs.lemmas.Slice.Eq.{bytes_eq-Decides}
 use Rattle.mp_base.specs.declared.path.PathStep.{PathStep}
 use Rattle.mp_ast.specs.PlainTrees.{PlainDeclaration, PlainTree, PlainTrees, TreeOf, NoTrees, Beside}
-use Rattle.mp_ast.specs.Blocks.{Nested, PlacedBlock, nested_after, nested_in, is_block, tokens_of, blocks, blocks_from, blocks_inside, same_step, same_path, PathsDiffer}
+use Rattle.mp_ast.specs.Blocks.{Nested, PlacedBlock, nested_after, nested_in, is_block, tokens_of, blocks, blocks_from, blocks_inside, same_step, same_path, PathsDiffer, EachIsAtItsPath}
 
 -- ---- steps
 
@@ -159,3 +159,28 @@ mutual
 
 pub paths_differ : (tree : PlainTree) → PathsDiffer tree
 paths_differ tree = from_distinct [] 0 tree
+
+-- ---- the block with a path
+
+same_path_itself : (path : List PathStep) → same_path path path ≡ true
+same_path_itself [] = refl
+same_path_itself (s ∷ path) =
+    ap (λ x. (x && nat_eq s.nth s.nth) && same_path path path) (same_bytes s.name) ∙
+    ap (λ x. x && same_path path path) (eq-eqb s.nth s.nth refl) ∙ same_path_itself path
+
+all-both : {X : Type 0} (P Q R : X → Type 0) → ((x : X) → P x → Q x → R x) → (xs : List X) → AllByRecursion P xs → AllByRecursion Q xs → AllByRecursion R xs
+all-both P Q R f [] a b = tt
+all-both P Q R f (x ∷ xs) a b = (f x a.0 b.0, all-both P Q R f xs a.1 b.1)
+
+each_is_found : (bs : List PlacedBlock) → IsDistinct same_block bs → AllByRecursion (λ b. find (λ x. same_block x b) bs ≡ Some b) bs
+unfolding IsDistinct
+each_is_found [] d = tt
+each_is_found (x ∷ bs) d = (
+  cond-true (same_block x x) (Some x) (find (λ y. same_block y x) bs) (same_path_itself x.path),
+  all-both (λ b. same_block x b ≡ false) (λ b. find (λ y. same_block y b) bs ≡ Some b) (λ b. find (λ y. same_block y b) (x ∷ bs) ≡ Some b)
+      (λ b other found. cond-false (same_block x b) (Some x) (find (λ y. same_block y b) bs) other ∙ found)
+      bs d.0 (each_is_found bs d.1),
+)
+
+pub each_is_at_its_path : (tree : PlainTree) → EachIsAtItsPath tree
+each_is_at_its_path tree = each_is_found (blocks tree) (paths_differ tree)

@@ -1,8 +1,8 @@
 -- The blocks of a program (ISO 7185, 6.2), and where their tokens stand in its text. A block is the program's or that of
 -- one declaration; a `forward` declaration has none. Each token belongs to one block: a heading with its `;` to the
 -- enclosing block, and what follows up to the nested block's `end` to the nested one.
-use Rattle.std.specs.Prelude.{ℕ, ◌+◌, Bool, true, false, ◌&&◌, List, [], ◌∷◌, ◌++◌, Option, Some, None, map, filter, find, count_by, length, slice_get, nat_eq, nat_le, nat_lt, bytes_eq, if◌then◌else◌, option_map, option_and_then}
-use Rattle.std.specs.List.{range_with_len, IsDistinct}
+use Rattle.std.specs.Prelude.{◌≡◌, ℕ, ◌+◌, Bool, true, false, ◌&&◌, List, [], ◌∷◌, ◌++◌, Option, Some, None, map, filter, find, count_by, length, slice_get, nat_eq, nat_le, nat_lt, bytes_eq, if◌then◌else◌, option_map, option_and_then}
+use Rattle.std.specs.List.{range_with_len, IsDistinct, AllByRecursion}
 use Rattle.mp_base.specs.declared.path.PathStep.{PathStep}
 use Rattle.mp_base.specs.declared.place.At.{At}
 use Rattle.mp_base.specs.declared.place.Place.{Place}
@@ -102,13 +102,17 @@ same_path [] (t ∷ other) = false
 same_path (s ∷ path) [] = false
 same_path (s ∷ path) (t ∷ other) = same_step s t && same_path path other
 
+-- the block with a path
+abbrev pub block_at : PlainTree → List PathStep → Option PlacedBlock
+block_at program path = find (λ block. same_path block.path path) (blocks program)
+
 -- no two blocks have the same path
 abbrev pub PathsDiffer : PlainTree → Type 0
 PathsDiffer program = IsDistinct (λ a b. same_path a.path b.path) (blocks program)
 
--- the block with a path
-abbrev pub block_at : PlainTree → List PathStep → Option PlacedBlock
-block_at program path = find (λ block. same_path path block.path) (blocks program)
+-- each block is the one with its path
+abbrev pub EachIsAtItsPath : PlainTree → Type 0
+EachIsAtItsPath program = AllByRecursion (λ block. block_at program block.path ≡ Some block) (blocks program)
 
 abbrev own_index : PlacedBlock → ℕ → Option ℕ
 own_index block ordinal = if nat_lt ordinal block.own.tokens then Some (index_in block ordinal) else None

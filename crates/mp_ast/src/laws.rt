@@ -32,7 +32,7 @@ ghost use Rattle.mp_ast.specs.PlainStatements.{PlainStatement, arms_of, plain_he
 ghost use Rattle.mp_ast.specs.PlainTypes.{PlainDenoter, indices_of, variants_of, plain_denoter, plain_sections};
 ghost use Rattle.mp_ast.specs.PlainHeadings.{PlainFormalSection, formals_of, plain_formal_section};
 ghost use Rattle.mp_ast.specs.PlainTrees.{PlainTree, trees_of, plain_block, plain_tree};
-ghost use Rattle.mp_ast.specs.Blocks.{tokens_of, blocks, own_tokens, index_of, token_position, position};
+ghost use Rattle.mp_ast.specs.Blocks.{tokens_of, blocks, own_tokens, index_of, token_position, PathsDiffer, EachIsAtItsPath, position};
 ghost use Rattle.mp_ast.specs.WholeTrees.{IsWhole, TokensAddUp, EachTokenHasABlock};
 ghost use Rattle.mp_ast.specs.BlocksExample as example;
 ghost use Rattle.mp_ast.specs.BlocksExample.{step, place};
@@ -118,6 +118,12 @@ pub fn trees_of_programs_are_whole()
     ensures whole { (limits : Limits) (kinds : List TokenKind) (tree : Tree) → Derives limits kinds tree → IsWhole (plain_tree tree) }
     ensures tokens { (limits : Limits) (kinds : List TokenKind) (tree : Tree) → Derives limits kinds tree → tokens_of (plain_tree tree) ≡ length kinds }
     ensures each { (limits : Limits) (kinds : List TokenKind) (tree : Tree) → Derives limits kinds tree → EachTokenHasABlock (plain_tree tree) }
+{}
+
+/// Each block of a tree has a path of its own, by which it is found.
+pub fn one_block_a_path()
+    ensures differ { (tree : PlainTree) → PathsDiffer tree }
+    ensures found { (tree : PlainTree) → EachIsAtItsPath tree }
 {}
 
 /// A program with a procedure that is declared `forward`, one with a block in it, and two of one name: its blocks with

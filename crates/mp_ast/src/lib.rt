@@ -29,9 +29,9 @@ pub use errors::{LexError, LexErrors};
 pub use expressions::{Access, Actual, Expr, Member, Operation, Operator, Selector, Width};
 pub use headings::{FormalSection, HeadingKind, HeadingTree};
 pub use laws::{
-    blocks_of_an_example, plain_expression_forms, plain_forms_tell, plain_heading_forms,
-    plain_statement_forms, plain_tree_forms, plain_type_forms, tokens_of_whole_trees,
-    trees_of_programs_are_whole,
+    blocks_of_an_example, one_block_a_path, plain_expression_forms, plain_forms_tell,
+    plain_heading_forms, plain_statement_forms, plain_tree_forms, plain_type_forms,
+    tokens_of_whole_trees, trees_of_programs_are_whole,
 };
 pub use leaves::{CharacterString, Constant, Identifier, Number, Sign, SignKind};
 pub use lexed::Lexed;
