@@ -1,22 +1,21 @@
 -- A program's tree is whole and has as many tokens as its text. A block's own tokens and those of the blocks in it are
 -- counted together: what a rule reads in a block, it either goes on by, or it stands in a nested tree.
-use Rattle.std.proofs.Common.{◌≡◌, ℕ, zero, suc, ◌+◌, ◌≤◌, ◌⊎◌, ⊎_elim, List, [], ◌∷◌, ◌++◌, map, Option, Some, None, length, refl, sym, ap, ◌∙◌, subst, arith, filter}
+use Rattle.std.proofs.Common.{◌≡◌, ℕ, zero, suc, ◌+◌, ◌≤◌, ⊎_elim, List, [], ◌∷◌, ◌++◌, map, Option, None, length, refl, sym, ap, ◌∙◌, subst, arith, filter}
 use Rattle.mp_ast.specs.declared.tokens.TokenKind.{TokenKind}
 use Rattle.mp_ast.specs.declared.headings.HeadingTree.{HeadingTree}
 use Rattle.mp_ast.specs.declared.blocks.ProgramHeading.{ProgramHeading}
 use Rattle.mp_ast.specs.declared.blocks.DeclaredBody.{DeclaredBody}
 use Rattle.mp_ast.specs.declared.blocks.DeclaredBody.TheVariants as body
-use Rattle.mp_ast.specs.declared.blocks.Declaration.{Declaration}
 use Rattle.mp_ast.specs.declared.blocks.Block.{Block}
 use Rattle.mp_ast.specs.declared.blocks.Tree.{Tree, roll-Tree}
-use Rattle.mp_ast.specs.Rules.{Input, Rule, Many, no_more, one_more, joined, deeper, many}
+use Rattle.mp_ast.specs.Rules.{Input, Rule, Many, no_more, one_more, joined, deeper}
 use Rattle.mp_ast.specs.BlockGrammar.{Limits, Declared, block_with, nested_block, program}
 use Rattle.mp_ast.specs.Programs.{Derives, start_of}
-use Rattle.mp_ast.specs.PlainTrees.{PlainDeclaration, PlainTree, PlainTrees, plain_declaration, plain_block, trees_of, plain_tree}
+use Rattle.mp_ast.specs.PlainTrees.{plain_declaration, plain_block, trees_of, plain_tree}
 use Rattle.mp_ast.specs.Blocks.{nested_after, nested_in, is_block, tokens_of, tokens_of_all}
 use Rattle.mp_ast.specs.WholeTrees.{IsWhole, AreWhole}
 use Rattle.mp_ast.proofs.PlainTreeLemmas.{plain_tree-roll}
-use Rattle.mp_ast.proofs.Counting.{Counted, Counts, stands, nothing, next, made, either, maybe, repeated, one, row, opens, ordinal, still, onward, identifier_counts, number_counts, constant_counts}
+use Rattle.mp_ast.proofs.Counting.{Counted, Counts, stands, nothing, next, either, repeated, one, row, opens, onward, identifier_counts, number_counts, constant_counts}
 use Rattle.mp_ast.proofs.CountingStatements.{sequence_behind_counts}
 use Rattle.mp_ast.proofs.CountingTypes.{denoter_counts, section_counts}
 use Rattle.mp_ast.proofs.CountingHeadings.{heading_counts}

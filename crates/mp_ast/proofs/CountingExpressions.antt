@@ -1,10 +1,5 @@
 -- The rules of expressions go on by as many ordinals as they read tokens.
-use Rattle.std.proofs.Common.{ℕ, zero, suc, List, Option}
-use Rattle.mp_ast.specs.declared.expressions.Access.{Access}
-use Rattle.mp_ast.specs.declared.expressions.Actual.{Actual}
-use Rattle.mp_ast.specs.declared.expressions.Expr.{Expr}
-use Rattle.mp_ast.specs.declared.expressions.Operator.{Operator}
-use Rattle.mp_ast.specs.Rules.{Rule}
+use Rattle.std.proofs.Common.{ℕ, zero, suc}
 use Rattle.mp_ast.specs.ExpressionGrammar.{Deeper, behind, relational_operator, adding_operator, multiplying_operator, access_with, actuals_with, factor_with, term, simple_expression, expression_with, expression, access, actuals}
 use Rattle.mp_ast.proofs.Counting.{Counts, nothing, never, next, made, either, maybe, repeated, repeated_lists, one, row, opens, identifier_counts, number_counts, string_counts, sign_counts}
 

@@ -1,7 +1,5 @@
 -- The rules of headings go on by as many ordinals as they read tokens.
-use Rattle.std.proofs.Common.{ℕ, zero, suc, List}
-use Rattle.mp_ast.specs.declared.headings.FormalSection.{FormalSection}
-use Rattle.mp_ast.specs.Rules.{Rule}
+use Rattle.std.proofs.Common.{ℕ, zero, suc}
 use Rattle.mp_ast.specs.HeadingGrammar.{formals_behind, formals, heading}
 use Rattle.mp_ast.proofs.Counting.{Counts, nothing, never, next, made, either, maybe, one, row, opens, identifier_counts}
 

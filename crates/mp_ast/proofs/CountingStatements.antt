@@ -1,6 +1,6 @@
 -- The rules of statements go on by as many ordinals as they read tokens.
 use Rattle.std.proofs.Common.{ℕ, zero, suc}
-use Rattle.mp_ast.specs.StatementGrammar.{Deeper, behind, unlabelled, statement_with, statement, sequence}
+use Rattle.mp_ast.specs.StatementGrammar.{Deeper, behind, unlabelled, statement_with, sequence}
 use Rattle.mp_ast.proofs.Counting.{Counts, nothing, never, next, made, either, maybe, one, row, ordinal, unless, opens, identifier_counts, number_counts, constant_counts}
 use Rattle.mp_ast.proofs.CountingExpressions.{expression_counts, access_counts, actuals_counts}
 

@@ -1,6 +1,5 @@
 -- The rules of type denoters go on by as many ordinals as they read tokens.
-use Rattle.std.proofs.Common.{ℕ, zero, suc, Option}
-use Rattle.mp_ast.specs.declared.words.WordSymbol.{WordSymbol}
+use Rattle.std.proofs.Common.{ℕ, zero, suc}
 use Rattle.mp_ast.specs.declared.types.Denoter.{Denoter}
 use Rattle.mp_ast.specs.Rules.{Rule}
 use Rattle.mp_ast.specs.TypeGrammar.{Deeper, behind, simple_type, section, denoter_with, field_list_with, denoter}

@@ -121,8 +121,7 @@ own_index block ordinal = if nat_lt ordinal block.own.tokens then Some (index_in
 abbrev pub index_of : PlainTree → Place → Option ℕ
 index_of program place = option_and_then (λ block. own_index block place.ordinal) (block_at program place.path)
 
--- The line and column of the first byte of the token with an index. With the number of tokens for the index, it is the
--- end of the text.
+-- The line and column of the first byte of the token with an index, or the end of the text where no token has it.
 abbrev pub token_position : List (List ℕ) → List Token → ℕ → At
 token_position text tokens index = position_from_start (slice_get tokens index)
   where
