@@ -8,3 +8,11 @@ pub mod HeadingGrammar
 pub mod BlockGrammar
 pub mod Programs
 pub mod FirstError
+pub mod PlainExpressions
+pub mod PlainStatements
+pub mod PlainTypes
+pub mod PlainHeadings
+pub mod PlainTrees
+pub mod Blocks
+pub mod WholeTrees
+pub mod BlocksExample
