@@ -8,3 +8,4 @@ pub mod HeadingGrammar
 pub mod BlockGrammar
 pub mod Programs
 pub mod FirstError
+pub mod Examples

@@ -9,6 +9,7 @@
 
 mod blocks;
 mod errors;
+mod examples;
 mod expressions;
 mod headings;
 mod leaves;
@@ -24,6 +25,9 @@ pub use blocks::{
     Tree, TypeDefinition,
 };
 pub use errors::{LexError, LexErrors};
+pub use examples::{
+    expression_example, heading_example, program_example, statement_example, type_example,
+};
 pub use expressions::{Access, Actual, Expr, Member, Operation, Operator, Selector, Width};
 pub use headings::{FormalSection, HeadingKind, HeadingTree};
 pub use leaves::{CharacterString, Constant, Identifier, Number, Sign, SignKind};

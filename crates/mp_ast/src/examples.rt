@@ -1,0 +1,31 @@
+// Examples of the grammar: each function's contract is a list of tokens and its tree, for one chapter, and what has none.
+ghost use Rattle.mp_ast.specs.Examples.{ExpressionExample, ElseExample, CaseExample, NoElseFollows, TypeExample, NoRoomForPacked, HeadingExample, ProgramExample, NoneInTheDeepest};
+
+/// A program with a forward declaration, a block in it, and the own tokens of both blocks.
+pub fn program_example()
+    ensures tree { ProgramExample }
+    ensures none { NoneInTheDeepest }
+{}
+
+/// A type denoter: a packed record with an array, a variant part and a last `;`.
+pub fn type_example()
+    ensures tree { TypeExample }
+    ensures none { NoRoomForPacked }
+{}
+
+/// A heading with variable parameters and a functional parameter.
+pub fn heading_example()
+    ensures { HeadingExample }
+{}
+
+/// Statements: an `else` behind two `if`s, and a labelled `case` statement with a last `;`.
+pub fn statement_example()
+    ensures alternative { ElseExample }
+    ensures labelled { CaseExample }
+    ensures none { NoElseFollows }
+{}
+
+/// An expression with a sign, selectors, parentheses, a relation and a set.
+pub fn expression_example()
+    ensures { ExpressionExample }
+{}
