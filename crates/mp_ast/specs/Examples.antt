@@ -11,10 +11,15 @@ use Rattle.mp_ast.specs.declared.leaves.Constant.{Constant}
 use Rattle.mp_ast.specs.declared.leaves.Constant.TheVariants as constants
 use Rattle.mp_ast.specs.declared.expressions.Operator.TheVariants as operators
 use Rattle.mp_ast.specs.declared.expressions.Selector.TheVariants as selectors
+use Rattle.mp_ast.specs.declared.expressions.Operation.{Operation}
 use Rattle.mp_ast.specs.declared.expressions.Expr.{Expr}
 use Rattle.mp_ast.specs.declared.expressions.Expr.TheVariants as expressions
+use Rattle.mp_ast.specs.declared.statements.Arm.{Arm}
 use Rattle.mp_ast.specs.declared.statements.Statement.{Statement}
 use Rattle.mp_ast.specs.declared.statements.Statement.TheVariants as statements
+use Rattle.mp_ast.specs.declared.types.Section.{Section}
+use Rattle.mp_ast.specs.declared.types.Variant.{Variant}
+use Rattle.mp_ast.specs.declared.types.VariantPart.{VariantPart}
 use Rattle.mp_ast.specs.declared.types.Denoter.{Denoter}
 use Rattle.mp_ast.specs.declared.types.Denoter.TheVariants as denoters
 use Rattle.mp_ast.specs.declared.headings.FormalSection.TheVariants as sections
@@ -143,28 +148,32 @@ expression_tokens =
     ∷ left_paren ∷ Digits 2 ∷ plus ∷ Id n ∷ right_paren ∷ less_equal
     ∷ left_bracket ∷ Digits 1 ∷ dots ∷ Digits 3 ∷ comma ∷ Id x ∷ right_bracket ∷ []
 
+-- a[i, j]^.f
+abbrev field : Expr
+field = expressions.Access (record {
+  name = named 1 a;
+  selectors = selectors.Index 2 (variable 3 i) ∷ selectors.Index 4 (variable 5 j) ∷ selectors.Follow 7 ∷ selectors.Field 8 (named 9 f) ∷ [];
+})
+
+-- * (2 + n)
+abbrev times_sum : Operation Expr
+times_sum = record {
+  at = 10;
+  operator = operators.Multiply;
+  operand = expressions.Inside 11 (expressions.Sum None (number 12 2) (record { at = 13; operator = operators.Add; operand = variable 14 n } ∷ []));
+}
+
+-- <= [1 .. 3, x]
+abbrev within_set : Operation Expr
+within_set = record {
+  at = 16;
+  operator = operators.LessOrEqual;
+  operand = expressions.Set 17 (record { first = number 18 1; last = Some (number 20 3) } ∷ record { first = variable 22 x; last = None } ∷ []);
+}
+
 -- The sign is that of the whole term, and a further index stands at its comma.
 abbrev expression_tree : Expr
-expression_tree =
-    expressions.Relation
-    (expressions.Sum
-    (Some (record { at = 0; kind = signs.Minus }))
-    (expressions.Product
-    (expressions.Access (record {
-      name = named 1 a;
-      selectors = selectors.Index 2 (variable 3 i) ∷ selectors.Index 4 (variable 5 j) ∷ selectors.Follow 7 ∷ selectors.Field 8 (named 9 f) ∷ [];
-    }))
-    (record {
-      at = 10;
-      operator = operators.Multiply;
-      operand = expressions.Inside 11 (expressions.Sum None (number 12 2) (record { at = 13; operator = operators.Add; operand = variable 14 n } ∷ []));
-    } ∷ []))
-    [])
-    (record {
-      at = 16;
-      operator = operators.LessOrEqual;
-      operand = expressions.Set 17 (record { first = number 18 1; last = Some (number 20 3) } ∷ record { first = variable 22 x; last = None } ∷ []);
-    })
+expression_tree = expressions.Relation (expressions.Sum (Some (record { at = 0; kind = signs.Minus })) (expressions.Product field (times_sum ∷ [])) []) within_set
 
 -- where one more opener may stand open
 abbrev pub ExpressionExample : Type 0
@@ -190,14 +199,16 @@ case_tokens =
     ∷ Digits 1 ∷ comma ∷ Digits 2 ∷ colon ∷ Id x ∷ assign ∷ Digits 1 ∷ semicolon
     ∷ Text a ∷ colon ∷ semicolon ∷ Word words.End ∷ []
 
--- The last arm's statement is empty, and stands at the `;` behind it.
+-- 1, 2: x := 1
+abbrev first_arm : Arm Statement
+first_arm = record { constants = constant 5 1 ∷ constant 7 2 ∷ []; body = statements.Assign (record { name = named 9 x; selectors = [] }) 10 (number 11 1) }
+
+-- 'a': with an empty statement, which stands at the `;` behind it
+abbrev last_arm : Arm Statement
+last_arm = record { constants = constants.Text (record { at = 13; characters = a }) ∷ []; body = statements.Empty 15 }
+
 abbrev case_tree : Statement
-case_tree =
-    statements.Labelled (digits 0 9) (
-    statements.Case 2 (variable 3 i) (
-    record { constants = constant 5 1 ∷ constant 7 2 ∷ []; body = statements.Assign (record { name = named 9 x; selectors = [] }) 10 (number 11 1) }
-    ∷ record { constants = constants.Text (record { at = 13; characters = a }) ∷ []; body = statements.Empty 15 }
-    ∷ []))
+case_tree = statements.Labelled (digits 0 9) (statements.Case 2 (variable 3 i) (first_arm ∷ last_arm ∷ []))
 
 -- where one or two more openers may stand open
 abbrev pub ElseExample : Type 0
@@ -228,26 +239,28 @@ type_tokens =
     ∷ Digits 2 ∷ colon ∷ left_paren ∷ right_paren ∷ semicolon
     ∷ Word words.End ∷ []
 
--- The record stands at `packed`; the array with the second index type stands at the comma before it.
+-- a, b: array [c, 1 .. 9] of c, where the array that has the second index type stands at the comma before it
+abbrev fixed_part : Section Denoter
+fixed_part = record {
+  names = named 2 a ∷ named 4 b ∷ [];
+  of = denoters.Array false (record { at = 6; of = type_named 8 c } ∷ record { at = 9; of = denoters.Subrange (constant 10 1) (constant 12 9) } ∷ []) (type_named 15 c);
+}
+
+-- 1: (f: ^n)
+abbrev first_variant : Variant Denoter
+first_variant = record { constants = constant 22 1 ∷ []; fields = denoters.Fields (record { names = named 25 f ∷ []; of = denoters.Pointer 27 (named 28 n) } ∷ []) None }
+
+-- 2: ()
+abbrev last_variant : Variant Denoter
+last_variant = record { constants = constant 31 2 ∷ []; fields = denoters.Fields [] None }
+
+-- case x: c of ..
+abbrev variant_part : VariantPart Denoter
+variant_part = record { at = 17; tag = Some (named 18 x); of = named 20 c; variants = first_variant ∷ last_variant ∷ [] }
+
+-- The record stands at `packed`.
 abbrev type_tree : Denoter
-type_tree =
-    denoters.Record 0 true
-    (denoters.Fields
-    (record {
-      names = named 2 a ∷ named 4 b ∷ [];
-      of = denoters.Array false
-          (record { at = 6; of = type_named 8 c } ∷ record { at = 9; of = denoters.Subrange (constant 10 1) (constant 12 9) } ∷ [])
-          (type_named 15 c);
-    } ∷ [])
-    (Some (record {
-      at = 17;
-      tag = Some (named 18 x);
-      of = named 20 c;
-      variants =
-          record { constants = constant 22 1 ∷ []; fields = denoters.Fields (record { names = named 25 f ∷ []; of = denoters.Pointer 27 (named 28 n) } ∷ []) None }
-          ∷ record { constants = constant 31 2 ∷ []; fields = denoters.Fields [] None }
-          ∷ [];
-    })))
+type_tree = denoters.Record 0 true (denoters.Fields (fixed_part ∷ []) (Some variant_part))
 
 -- where two more openers may stand open: `packed`, and in it `array` and `case`
 abbrev pub TypeExample : Type 0
