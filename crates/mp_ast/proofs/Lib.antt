@@ -5,3 +5,4 @@ pub mod ExampleRefusals
 pub mod TypeExample
 pub mod HeadingExample
 pub mod ProgramExample
+pub mod FirstErrorExamples

@@ -37,6 +37,7 @@ use Rattle.mp_ast.specs.TypeGrammar.{denoter}
 use Rattle.mp_ast.specs.HeadingGrammar.{heading}
 use Rattle.mp_ast.specs.BlockGrammar.{Limits, block_with, nested_block}
 use Rattle.mp_ast.specs.Programs.{start_of, standard, Derives}
+use Rattle.mp_ast.specs.FirstError.{IsFirstError}
 
 -- the rule relates the tokens, all of them, to the tree
 abbrev pub Reads : {A : Type 0} → Rule A → List TokenKind → A → Type 0
@@ -348,3 +349,13 @@ NoneInTheDeepest =
     (limits : Limits) (heading : Option ProgramHeading) (found : Block × List Tree) (i j : Input)
     → block_with limits heading zero (nested_block limits zero) i found j
     → found.0.declarations ≡ []
+
+-- ---- the first error
+
+-- A text without tokens ends too early.
+abbrev pub EndsEarly : Type 0
+EndsEarly = IsFirstError standard [] 0 202
+
+-- begin end.
+abbrev pub WrongFirstToken : Type 0
+WrongFirstToken = IsFirstError standard (Word words.Begin ∷ Word words.End ∷ dot ∷ []) 0 201

@@ -1,5 +1,5 @@
-// Examples of the grammar: each function's contract is a list of tokens and its tree, for one chapter, and what has none.
-ghost use Rattle.mp_ast.specs.Examples.{ExpressionExample, ElseExample, CaseExample, NoElseFollows, TypeExample, NoRoomForPacked, HeadingExample, ProgramExample, NoneInTheDeepest};
+// Examples of the grammar: each function's contract is, for one chapter, a list of tokens and its tree, and what has none.
+ghost use Rattle.mp_ast.specs.Examples.{ExpressionExample, ElseExample, CaseExample, NoElseFollows, TypeExample, NoRoomForPacked, HeadingExample, ProgramExample, NoneInTheDeepest, EndsEarly, WrongFirstToken};
 
 /// A program with a forward declaration, a block in it, and the own tokens of both blocks.
 pub fn program_example()
@@ -28,4 +28,10 @@ pub fn statement_example()
 /// An expression with a sign, selectors, parentheses, a relation and a set.
 pub fn expression_example()
     ensures { ExpressionExample }
+{}
+
+/// The first error of a text without tokens, and of one that begins with another token than `program`.
+pub fn first_error_example()
+    ensures early { EndsEarly }
+    ensures wrong { WrongFirstToken }
 {}

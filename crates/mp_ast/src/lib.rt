@@ -26,7 +26,8 @@ pub use blocks::{
 };
 pub use errors::{LexError, LexErrors};
 pub use examples::{
-    expression_example, heading_example, program_example, statement_example, type_example,
+    expression_example, first_error_example, heading_example, program_example, statement_example,
+    type_example,
 };
 pub use expressions::{Access, Actual, Expr, Member, Operation, Operator, Selector, Width};
 pub use headings::{FormalSection, HeadingKind, HeadingTree};
