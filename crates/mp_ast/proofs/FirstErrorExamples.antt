@@ -1,5 +1,5 @@
 -- The first errors of two lists: a program begins with no token, and each begins with `program`.
-use Rattle.std.proofs.Common.{◌≡◌, ◌≢◌, ℕ, List, [], ◌∷◌, ◌++◌, take, length, refl, sym, arith}
+use Rattle.std.proofs.Common.{◌≡◌, List, [], ◌∷◌, refl, arith}
 use Rattle.mp_ast.specs.declared.tokens.TokenKind.{TokenKind}
 use Rattle.mp_ast.specs.declared.tokens.TokenKind.TheVariants.{Word}
 use Rattle.mp_ast.specs.declared.words.WordSymbol.TheVariants as w

@@ -6,3 +6,4 @@ pub mod TypeExample
 pub mod HeadingExample
 pub mod ProgramExample
 pub mod FirstErrorExamples
+pub mod LimitExamples

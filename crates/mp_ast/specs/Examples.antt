@@ -359,3 +359,17 @@ EndsEarly = IsFirstError standard [] 0 202
 -- begin end.
 abbrev pub WrongFirstToken : Type 0
 WrongFirstToken = IsFirstError standard (Word words.Begin ∷ Word words.End ∷ dot ∷ []) 0 201
+
+-- program p; procedure
+abbrev pub declaring_tokens : List TokenKind
+declaring_tokens = Word words.Program ∷ Id p ∷ semicolon ∷ Word words.Procedure ∷ []
+
+-- the declaration word where no block may stand in the program's, where no declaration may stand, and where neither may
+abbrev pub OneTooDeep : Type 0
+OneTooDeep = IsFirstError (record { openers = 1; depth = 0; declarations = 1 }) declaring_tokens 3 203
+
+abbrev pub OneTooMany : Type 0
+OneTooMany = IsFirstError (record { openers = 1; depth = 1; declarations = 0 }) declaring_tokens 3 204
+
+abbrev pub TooDeepAndTooMany : Type 0
+TooDeepAndTooMany = IsFirstError (record { openers = 1; depth = 0; declarations = 0 }) declaring_tokens 3 203
