@@ -7,3 +7,4 @@ pub mod HeadingExample
 pub mod ProgramExample
 pub mod FirstErrorExamples
 pub mod LimitExamples
+pub mod FollowsExample

@@ -33,7 +33,7 @@ left_out : {A : Type 0} {X : ℕ → Input → Type 0} {xs : List A} (first : Wo
 left_out first i m other h (inl p) = absurd (other (h (Word first) p.1.rest p.2.0))
 left_out first i m other h (inr p) = still i m p.1 h
 
-none_of_many : {A : Type 0} {r : Rule A} {j : Input} (xs : List A) (i : Input) → ((x : A) (i m : Input) → r i x m → ⊥) → Many r j xs i → i ≡ j
+pub none_of_many : {A : Type 0} {r : Rule A} {j : Input} (xs : List A) (i : Input) → ((x : A) (i m : Input) → r i x m → ⊥) → Many r j xs i → i ≡ j
 none_of_many _ _ h no_more = refl
 none_of_many _ _ h (one_more x xs i m p more) = absurd (h x i m p)
 
@@ -84,7 +84,7 @@ no_block limits heading (suc depth) nested found i j none h p =
     let e = none_of_many declared.0 p.3.3.3.1 (λ x i m q. not_allowed depth limits.declarations i.declared none q.2.0) declared.2 in
     no_statements limits.openers declared.1 declared.3.2.0 declared.3.2.1 (still p.3.3.3.1 declared.1 e (at_declarations limits heading (suc depth) nested found i j h p)) declared.3.2.2
 
-behind_heading : {A : Type 0} {X : ℕ → Input → Type 0} (xs : List A) (i m j : Input) (kinds : List TokenKind) → i.rest ≡ Symbol s.Semicolon ∷ kinds → ((at : ℕ) × (l : Input) × symbol s.LeftParen i at l × X at l) ⊎ gives [] i xs m → m.rest ≡ Symbol s.Semicolon ∷ j.rest → j.rest ≡ kinds
+pub behind_heading : {A : Type 0} {X : ℕ → Input → Type 0} (xs : List A) (i m j : Input) (kinds : List TokenKind) → i.rest ≡ Symbol s.Semicolon ∷ kinds → ((at : ℕ) × (l : Input) × symbol s.LeftParen i at l × X at l) ⊎ gives [] i xs m → m.rest ≡ Symbol s.Semicolon ∷ j.rest → j.rest ≡ kinds
 behind_heading xs i m j kinds e (inl p) f = let g = p.2.0 in absurd (cc)
 behind_heading xs i m j kinds e (inr p) f = let g = ap (λ v. v.rest) p.1 in cc
 
@@ -104,10 +104,15 @@ nothing_there k more e = let f : ◌≡◌ {A = List TokenKind} [] (k ∷ more) 
 procedure_there : (kinds : List TokenKind) (k : TokenKind) (more : List TokenKind) → Word w.Procedure ∷ kinds ≡ k ∷ more → k ≡ Word w.Procedure
 procedure_there kinds k more e = let f : Word w.Procedure ∷ kinds ≡ k ∷ more = e in cc
 
-short_program : (depth declarations : ℕ) → IsViable (record { openers = 1; depth = depth; declarations = declarations }) (take 3 declaring_tokens)
+-- program p; begin end.
+pub short_tree : (depth declarations : ℕ) → HasTree (record { openers = 1; depth = depth; declarations = declarations }) (Word w.Program ∷ Id (codes "p") ∷ Symbol s.Semicolon ∷ Word w.Begin ∷ Word w.End ∷ Symbol s.Dot ∷ [])
 unfolding behind
-short_program depth declarations = (Word w.Begin ∷ Word w.End ∷ Symbol s.Dot ∷ [], (_, (_, (seq _ _ took (seq _ _ took (seq _ _ (past_1 nothing) (seq _ _ took (seq _ _ (seq _ _ (past_1 nothing) (seq _ _ (past_1 nothing) (seq _ _ (past_1 nothing) (seq _ _ (past_1 nothing) (seq _ _ no_more (seq _ _ (seq _ _ took (seq _ _ (seq _ _ (inl (inl (seq _ _ next nothing))) (seq _ _ no_more nothing)) (seq _ _ took nothing))) (seq _ _ next nothing))))))) (seq _ _ took (seq _ _ next nothing))))))), refl)))
+short_tree depth declarations = (_, (_, (seq _ _ took (seq _ _ took (seq _ _ (past_1 nothing) (seq _ _ took (seq _ _ (seq _ _ (past_1 nothing) (seq _ _ (past_1 nothing) (seq _ _ (past_1 nothing) (seq _ _ (past_1 nothing) (seq _ _ no_more (seq _ _ (seq _ _ took (seq _ _ (seq _ _ (inl (inl (seq _ _ next nothing))) (seq _ _ no_more nothing)) (seq _ _ took nothing))) (seq _ _ next nothing))))))) (seq _ _ took (seq _ _ next nothing))))))), refl))
 
+short_program : (depth declarations : ℕ) → IsViable (record { openers = 1; depth = depth; declarations = declarations }) (take 3 declaring_tokens)
+short_program depth declarations = (Word w.Begin ∷ Word w.End ∷ Symbol s.Dot ∷ [], short_tree depth declarations)
+
+-- program p; procedure q; begin end; begin end.
 long_program : IsViable (record { openers = 1; depth = 1; declarations = 1 }) declaring_tokens
 unfolding behind nested_block
 long_program = (Id (codes "q") ∷ Symbol s.Semicolon ∷ Word w.Begin ∷ Word w.End ∷ Symbol s.Semicolon ∷ Word w.Begin ∷ Word w.End ∷ Symbol s.Dot ∷ [], (_, (_, (seq _ _ took (seq _ _ took (seq _ _ (past_1 nothing) (seq _ _ took (seq _ _ (seq _ _ (past_1 nothing) (seq _ _ (past_1 nothing) (seq _ _ (past_1 nothing) (seq _ _ (past_1 nothing) (seq _ _ ((seq _ _ (omega arith, refl) (seq _ _ (inl (seq _ _ took (seq _ _ took (seq _ _ (past_1 nothing) nothing)))) (seq _ _ took (seq _ _ (past_1 (seq _ _ (_, (seq _ _ (seq _ _ (past_1 nothing) (seq _ _ (past_1 nothing) (seq _ _ (past_1 nothing) (seq _ _ (past_1 nothing) (seq _ _ no_more (seq _ _ (seq _ _ took (seq _ _ (seq _ _ (inl (inl (seq _ _ next nothing))) (seq _ _ no_more nothing)) (seq _ _ took nothing))) (seq _ _ next nothing))))))) nothing), refl) nothing)) (seq _ _ took nothing))))) ⊳ no_more) (seq _ _ (seq _ _ took (seq _ _ (seq _ _ (inl (inl (seq _ _ next nothing))) (seq _ _ no_more nothing)) (seq _ _ took nothing))) (seq _ _ next nothing))))))) (seq _ _ took (seq _ _ next nothing))))))), refl)))

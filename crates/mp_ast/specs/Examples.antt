@@ -373,3 +373,12 @@ OneTooMany = IsFirstError (record { openers = 1; depth = 1; declarations = 0 }) 
 
 abbrev pub TooDeepAndTooMany : Type 0
 TooDeepAndTooMany = IsFirstError (record { openers = 1; depth = 0; declarations = 0 }) declaring_tokens 3 203
+
+-- program p; begin end. x
+abbrev pub FollowsTheProgram : Type 0
+FollowsTheProgram =
+    IsFirstError
+    (record { openers = 1; depth = 0; declarations = 0 })
+    (Word words.Program ∷ Id p ∷ semicolon ∷ Word words.Begin ∷ Word words.End ∷ dot ∷ Id x ∷ [])
+    6
+    205

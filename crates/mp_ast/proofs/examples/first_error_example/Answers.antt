@@ -1,5 +1,6 @@
 use Rattle.mp_ast.proofs.FirstErrorExamples.{ends_early_example, wrong_example}
 use Rattle.mp_ast.proofs.LimitExamples.{one_too_deep, one_too_many, too_deep_and_too_many}
+use Rattle.mp_ast.proofs.FollowsExample.{follows_example}
 use Rattle.mp_ast.proofs.examples.first_error_example.Goals as goal
 
 pub returns-clause-early : goal.returns-clause-early
@@ -16,3 +17,6 @@ returns-clause-many c = one_too_many
 
 pub returns-clause-both : goal.returns-clause-both
 returns-clause-both c = too_deep_and_too_many
+
+pub returns-clause-after : goal.returns-clause-after
+returns-clause-after c = follows_example
