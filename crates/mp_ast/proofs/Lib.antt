@@ -16,3 +16,13 @@ pub mod CountingTypes
 pub mod CountingHeadings
 pub mod CountingBlocks
 pub mod PathLemmas
+pub mod ExampleLemmas
+pub mod ExpressionExample
+pub mod StatementExamples
+pub mod ExampleRefusals
+pub mod TypeExample
+pub mod HeadingExample
+pub mod ProgramExample
+pub mod FirstErrorExamples
+pub mod LimitExamples
+pub mod FollowsExample

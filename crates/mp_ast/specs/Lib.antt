@@ -16,3 +16,4 @@ pub mod PlainTrees
 pub mod Blocks
 pub mod WholeTrees
 pub mod BlocksExample
+pub mod Examples

@@ -12,6 +12,7 @@
 
 mod blocks;
 mod errors;
+mod examples;
 mod expressions;
 mod headings;
 mod laws;
@@ -28,6 +29,10 @@ pub use blocks::{
     Tree, TypeDefinition,
 };
 pub use errors::{LexError, LexErrors};
+pub use examples::{
+    expression_example, first_error_example, heading_example, program_example, statement_example,
+    type_example,
+};
 pub use expressions::{Access, Actual, Expr, Member, Operation, Operator, Selector, Width};
 pub use headings::{FormalSection, HeadingKind, HeadingTree};
 pub use laws::{
