@@ -84,6 +84,7 @@ pub struct BlockTree {
 impl Model for BlockTree {
     ghost use Rattle.std.specs.Prelude.{◌≤◌};
     ghost use Rattle.std.specs.Arc.{arc_value};
+    ghost use Rattle.mp_base.specs.declared.limits.TheConstants.{TEXT_LIMIT};
     ghost use Rattle.std.specs.Coded.{codes};
     ghost use Rattle.mp_ast.specs.declared.blocks.Block.{Block};
     ghost use Rattle.mp_ast.specs.contracts.blocks.Block as block;
@@ -94,13 +95,13 @@ impl Model for BlockTree {
 
     ghost view = { λ tree. arc_value tree.shared };
 
-    ghost invariant = { λ tree. (arc_value tree.shared).tokens ≤ 262144 };
+    ghost invariant = { λ tree. (arc_value tree.shared).tokens ≤ TEXT_LIMIT };
 }
 
 impl BlockTree {
     /// The tree, to be shared.
     pub fn new(alloc: Global, block: Block) -> Result<BlockTree, Memory>
-        requires { block.tokens ≤ 262144 }
+        requires { block.tokens ≤ TEXT_LIMIT }
         ensures { IfOk result (λ tree. tree ≡ block) }
     {
         Ok(BlockTree {
@@ -120,7 +121,7 @@ impl BlockTree {
     /// The tree itself.
     pub fn get(&self) -> &Block
         ensures block { result.now ≡ self.now }
-        ensures tokens { self.now.tokens ≤ 262144 }
+        ensures tokens { self.now.tokens ≤ TEXT_LIMIT }
     {
         &self.shared
     }

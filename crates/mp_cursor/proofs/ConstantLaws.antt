@@ -1,8 +1,7 @@
 -- The laws of names, signs and constants.
-use Rattle.std.proofs.Common.{◌≡◌, true, List, [], ◌∷◌, Option, refl}
+use Rattle.std.proofs.Common.{◌≡◌, true, [], ◌∷◌, Option, refl}
 use Rattle.mp_ast.specs.declared.tokens.TokenKind.TheVariants as kind
 use Rattle.mp_ast.specs.declared.symbols.Symbol.TheVariants as s
-use Rattle.mp_ast.specs.declared.leaves.SignKind.TheVariants as sign_kind
 use Rattle.mp_ast.specs.declared.leaves.Sign.{Sign}
 use Rattle.mp_ast.specs.declared.leaves.Constant.TheVariants as c
 use Rattle.mp_ast.specs.Rules as rule

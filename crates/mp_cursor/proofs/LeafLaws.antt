@@ -1,7 +1,9 @@
 -- The laws of leaves and of tokens that open.
 use Rattle.std.proofs.Common.{◌≡◌, ℕ, zero, suc, ◌+◌, Bool, true, false, List, [], ◌∷◌, length, Err, sym, ap, ◌∙◌, arith}
 use Rattle.std.proofs.lemmas.Bool.{lt-ltb}
-use Rattle.std.specs.Prelude.{if◌then◌else◌, nat_lt}
+use Rattle.std.proofs.lemmas.Slice.Eq.{bytes_eq-Decides}
+use Rattle.std.specs.Prelude.{if◌then◌else◌, nat_lt, bytes_eq}
+use Rattle.mp_cursor.specs.declared.failure.Failure.TheVariants.{Wrong}
 use Rattle.mp_ast.specs.declared.tokens.TokenKind.{TokenKind}
 use Rattle.mp_ast.specs.declared.tokens.TokenKind.TheVariants as kind
 use Rattle.mp_ast.specs.declared.words.WordSymbol.{WordSymbol}
@@ -15,7 +17,7 @@ use Rattle.mp_ast.specs.LeafGrammar as leaf
 use Rattle.mp_cursor.specs.declared.next.Next.{Next}
 use Rattle.mp_cursor.specs.declared.next.Next.TheVariants as next
 use Rattle.mp_cursor.specs.Nexts.{next_of, class_of, is}
-use Rattle.mp_cursor.specs.Parsers.{next_token, expect, wrong, identifier, identifier_of, number, number_of, character_string, string_of, opening, open_where}
+use Rattle.mp_cursor.specs.Parsers.{next_token, expect, wrong, identifier, identifier_of, number, number_of, character_string, string_of, directive, directive_of, opening, open_where}
 use Rattle.mp_cursor.specs.Nexts.{any}
 use Rattle.mp_cursor.proofs.Laws.{Law, read, read_is, IsOnly, word_only, symbol_only, law_expect}
 
@@ -101,6 +103,38 @@ law_string = record {
       ∙ ap (λ n. read x (input n i.declared j.rest)) (sym d.2) ∙ ap (λ n. read x (input j.at n j.rest)) (sym d.3);
   begins = λ i x j d e. ap (λ ks. is next.Text (next_of ks)) d.0;
   shrinks = λ i x j h. let e = ap (λ ks. length ks) (string_sound i.at i.declared i.rest x j h).0 in omega arith;
+}
+
+-- ---- directives
+
+abbrev Directive : List ℕ → ℕ → ℕ → List TokenKind → ℕ → Input → Type 0
+Directive spelling at declared ks x j = (ks ≡ kind.Id spelling ∷ j.rest) × (at ≡ x) × (j.at ≡ at + 1) × (j.declared ≡ declared)
+
+spelled : (spelling name : List ℕ) (at declared : ℕ) (ks : List TokenKind) (x : ℕ) (j : Input) (b : Bool) → bytes_eq name spelling ≡ b → (if b then read at (input (at + 1) declared ks) else Err (Wrong (length (kind.Id name ∷ ks)))) ≡ read x j → Directive spelling at declared (kind.Id name ∷ ks) x j
+spelled spelling name at declared ks x j true e h =
+    let w = read_is at x (input (at + 1) declared ks) j h in
+    (ap (λ n. kind.Id n ∷ ks) ((bytes_eq-Decides name spelling).0 e) ∙ ap (λ m. kind.Id spelling ∷ m.rest) w.1, w.0, sym (ap (λ m. m.at) w.1), sym (ap (λ m. m.declared) w.1))
+spelled spelling name at declared ks x j false e h = absurd (let n : ⊥ = cc in n)
+
+directive_sound : (spelling : List ℕ) (at declared : ℕ) (ks : List TokenKind) (x : ℕ) (j : Input) → directive_of spelling at declared ks ≡ read x j → Directive spelling at declared ks x j
+directive_sound spelling at declared (kind.Id name ∷ ks) x j h = spelled spelling name at declared ks x j (bytes_eq name spelling) (λ i. bytes_eq name spelling) h
+directive_sound spelling at declared [] x j h = absurd (let n : ⊥ = cc in n)
+directive_sound spelling at declared (kind.Number v ∷ ks) x j h = absurd (let n : ⊥ = cc in n)
+directive_sound spelling at declared (kind.Text v ∷ ks) x j h = absurd (let n : ⊥ = cc in n)
+directive_sound spelling at declared (kind.Word v ∷ ks) x j h = absurd (let n : ⊥ = cc in n)
+directive_sound spelling at declared (kind.Symbol v ∷ ks) x j h = absurd (let n : ⊥ = cc in n)
+
+pub law_directive : (spelling : List ℕ) → Law (is next.Identifier) any (directive spelling) (token (kind.Id spelling))
+unfolding directive next_token
+law_directive spelling = record {
+  sound = λ i x j h. directive_sound spelling i.at i.declared i.rest x j h;
+  complete = λ i x j d e.
+      ap (directive_of spelling i.at i.declared) d.0
+      ∙ ap (λ b. if b then read i.at (input (i.at + 1) i.declared j.rest) else Err (Wrong (length (kind.Id spelling ∷ j.rest)))) ((bytes_eq-Decides spelling spelling).1 (λ i. spelling))
+      ∙ ap (λ n. read n (input (i.at + 1) i.declared j.rest)) d.1
+      ∙ ap (λ n. read x (input n i.declared j.rest)) (sym d.2) ∙ ap (λ n. read x (input j.at n j.rest)) (sym d.3);
+  begins = λ i x j d e. ap (λ ks. is next.Identifier (next_of ks)) d.0;
+  shrinks = λ i x j h. let e = ap (λ ks. length ks) (directive_sound spelling i.at i.declared i.rest x j h).0 in omega arith;
 }
 
 -- ---- tokens that open

@@ -1,10 +1,8 @@
 -- Turns of a loop, for the code that makes them.
-use Rattle.std.proofs.Common.{◌≡◌, ℕ, zero, suc, ◌+◌, ◌-◌, ◌<◌, ◌≤◌, Bool, true, false, refl, sym, ap, ◌∙◌, arith}
-use Rattle.std.specs.Prelude.{if◌then◌else◌}
+use Rattle.std.proofs.Common.{◌≡◌, ℕ, zero, suc, ◌+◌, ◌-◌, ◌<◌, ◌≤◌, refl, ap, ◌∙◌, arith}
 use Rattle.mp_ast.specs.Rules.{Input}
-use Rattle.mp_cursor.specs.declared.next.Next.{Next}
 use Rattle.mp_cursor.specs.Nexts.{Nexts}
-use Rattle.mp_cursor.specs.Parsers.{Parser, ◌>>=◌, pure, branch, next_token, loop, series, repeated, left}
+use Rattle.mp_cursor.specs.Parsers.{Parser, ◌>>=◌, pure, branch, loop}
 use Rattle.mp_cursor.proofs.Laws.{read}
 
 loop_suc : {A : Type 0} (f : Nexts) (turn : A → Parser A) (n : ℕ) (found : A) (i : Input) → loop f turn (suc n) found i ≡ branch f (turn found >>= loop f turn n) (pure found) i

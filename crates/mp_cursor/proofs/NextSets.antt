@@ -3,8 +3,8 @@ use Rattle.std.proofs.Common.{◌≡◌, ℕ, zero, suc, Bool, true, false, ◌&
 use Rattle.std.specs.Prelude.{not, slice_get}
 use Rattle.mp_cursor.specs.declared.next.Next.{Next}
 use Rattle.mp_cursor.specs.declared.next.Next.TheVariants as next
-use Rattle.mp_cursor.specs.Nexts.{is, word_number, symbol_number}
-use Rattle.mp_cursor.specs.Nexts.{Nexts, any, either, among, but}
+use Rattle.mp_cursor.specs.Nexts.{word_number, symbol_number}
+use Rattle.mp_cursor.specs.Nexts.{Nexts, any, either}
 use Rattle.mp_cursor.proofs.NextLemmas.{words, symbols, word_found, symbol_found}
 
 -- ---- tests on every token

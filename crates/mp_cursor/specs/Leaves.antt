@@ -1,5 +1,5 @@
 -- Parsers of names, signs and constants.
-use Rattle.std.specs.Prelude.{Option, Some, None, List, [], ◌∷◌}
+use Rattle.std.specs.Prelude.{Option, List, [], ◌∷◌}
 use Rattle.mp_ast.specs.declared.symbols.Symbol.TheVariants as s
 use Rattle.mp_ast.specs.declared.leaves.Identifier.{Identifier}
 use Rattle.mp_ast.specs.declared.leaves.SignKind.TheVariants as sign_kind

@@ -1,6 +1,6 @@
 -- What a parser of a list of tokens is, and the steps that every parser is made of. A parser looks at one token past
 -- those that it takes.
-use Rattle.std.specs.Prelude.{◌≡◌, ◌≢◌, ℕ, zero, suc, ◌+◌, Bool, true, false, if◌then◌else◌, nat_lt, List, [], ◌∷◌, ◌++◌, length, Option, Some, None, Result, Ok, Err}
+use Rattle.std.specs.Prelude.{◌≡◌, ◌≢◌, ℕ, zero, suc, ◌+◌, Bool, true, false, if◌then◌else◌, nat_lt, bytes_eq, List, [], ◌∷◌, ◌++◌, length, Option, Some, None, Result, Ok, Err}
 use Rattle.mp_ast.specs.declared.tokens.TokenKind.{TokenKind}
 use Rattle.mp_ast.specs.declared.tokens.TokenKind.TheVariants as kind
 use Rattle.mp_ast.specs.declared.leaves.Identifier.{Identifier}
@@ -115,6 +115,15 @@ string_of at declared kinds = Err (Wrong (length kinds))
 
 unfoldable pub character_string : Parser CharacterString
 character_string i = string_of i.at i.declared i.rest
+
+-- the identifier of this spelling, by its ordinal
+abbrev pub directive_of : List ℕ → ℕ → ℕ → List TokenKind → Outcome ℕ
+directive_of spelling at declared (kind.Id name ∷ kinds) =
+    if bytes_eq name spelling then Ok (at, record { at = at + 1; declared = declared; rest = kinds }) else Err (Wrong (length (kind.Id name ∷ kinds)))
+directive_of spelling at declared kinds = Err (Wrong (length kinds))
+
+unfoldable pub directive : List ℕ → Parser ℕ
+directive spelling i = directive_of spelling i.at i.declared i.rest
 
 -- ---- choices and lists
 

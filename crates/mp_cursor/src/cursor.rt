@@ -1,6 +1,6 @@
 #![tactic(auto, unfolding(crate::specs::Parsers::next_token, crate::specs::Parsers::behind, crate::specs::Parsers::left, crate::specs::Parsers::wrong, crate::specs::Parsers::too_deep, crate::specs::Parsers::too_many, crate::specs::Parsers::expect, crate::specs::Parsers::opening, crate::specs::Parsers::counted))]
 
-ghost use Rattle.std.specs.Prelude.{◌≡◌, ◌+◌, ◌-◌, ◌<◌, ◌≤◌, IfOk, IsTrue, length};
+ghost use Rattle.std.specs.Prelude.{◌≡◌, ◌+◌, ◌-◌, ◌<◌, ◌≤◌, IfOk, bytes_eq, length};
 ghost use Rattle.mp_ast.specs.Programs.{kinds_of, start_of};
 ghost use Rattle.mp_cursor.specs.Nexts.{is};
 ghost use Rattle.mp_cursor.specs.Parsers as spec;
@@ -9,7 +9,7 @@ ghost use Rattle.mp_cursor.specs.Parsers.{Reads};
 use crate::failure::Failure;
 use crate::next::{Next, class, same};
 use mp_ast::{CharacterString, Identifier, Number, Token, TokenKind};
-use mp_base::{Bytes, DECLARATION_LIMIT, TEXT_LIMIT};
+use mp_base::{Bytes, DECLARATION_LIMIT, Name, TEXT_LIMIT};
 use std::alloc::Global;
 use std::marker::Model;
 
@@ -31,6 +31,12 @@ impl<'a> Model for Cursor<'a> {
     ghost view = { input_of };
 
     ghost invariant = { IsSmall };
+}
+
+fn is_spelled(name: &Name, spelling: &str) -> bool
+    ensures { result ≡ bytes_eq name.now spelling.now }
+{
+    name.get() == spelling.as_bytes()
 }
 
 impl<'a> Cursor<'a> {
@@ -162,6 +168,32 @@ impl<'a> Cursor<'a> {
                 Ok(Identifier { at, name })
             }
             rest => Err(Failure::Wrong(rest.len())),
+        }
+    }
+
+    /// Goes past the identifier of this spelling in lower case, and answers its ordinal.
+    #[tactic(auto, unfolding(crate::specs::Parsers::directive))]
+    pub fn directive(&mut self, spelling: &str) -> Result<u32, Failure>
+        ensures { Reads (spec.directive spelling.now self.old) result self.new }
+    {
+        let at = self.at;
+        let left = self.rest.len();
+        match self.rest {
+            [
+                Token {
+                    kind: TokenKind::Id(name),
+                    ..
+                },
+                rest @ ..,
+            ] => {
+                if !is_spelled(name, spelling) {
+                    return Err(Failure::Wrong(left));
+                }
+                self.rest = rest;
+                self.at = at + 1;
+                Ok(at)
+            }
+            _ => Err(Failure::Wrong(left)),
         }
     }
 
