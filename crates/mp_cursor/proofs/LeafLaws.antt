@@ -1,0 +1,174 @@
+-- The laws of leaves and of tokens that open.
+use Rattle.std.proofs.Common.{◌≡◌, ℕ, zero, suc, ◌+◌, Bool, true, false, List, [], ◌∷◌, length, Err, sym, ap, ◌∙◌, arith}
+use Rattle.std.proofs.lemmas.Bool.{lt-ltb}
+use Rattle.std.proofs.lemmas.Slice.Eq.{bytes_eq-Decides}
+use Rattle.std.specs.Prelude.{if◌then◌else◌, nat_lt, bytes_eq}
+use Rattle.mp_cursor.specs.declared.failure.Failure.TheVariants.{Wrong}
+use Rattle.mp_ast.specs.declared.tokens.TokenKind.{TokenKind}
+use Rattle.mp_ast.specs.declared.tokens.TokenKind.TheVariants as kind
+use Rattle.mp_ast.specs.declared.words.WordSymbol.{WordSymbol}
+use Rattle.mp_ast.specs.declared.symbols.Symbol.{Symbol}
+use Rattle.mp_ast.specs.declared.leaves.Identifier.{Identifier}
+use Rattle.mp_ast.specs.declared.leaves.Number.{Number}
+use Rattle.mp_ast.specs.declared.leaves.CharacterString.{CharacterString}
+use Rattle.mp_ast.specs.Rules.{Input, Rule, token}
+use Rattle.mp_ast.specs.Rules as rule
+use Rattle.mp_ast.specs.LeafGrammar as leaf
+use Rattle.mp_cursor.specs.declared.next.Next.{Next}
+use Rattle.mp_cursor.specs.declared.next.Next.TheVariants as next
+use Rattle.mp_cursor.specs.Nexts.{next_of, class_of, is}
+use Rattle.mp_cursor.specs.Parsers.{next_token, expect, wrong, identifier, identifier_of, number, number_of, character_string, string_of, directive, directive_of, opening, open_where}
+use Rattle.mp_cursor.specs.Nexts.{any}
+use Rattle.mp_cursor.proofs.Laws.{Law, read, read_is, IsOnly, word_only, symbol_only, law_expect}
+
+-- ---- leaves
+
+abbrev pub input : ℕ → ℕ → List TokenKind → Input
+input at declared rest = record { at = at; declared = declared; rest = rest }
+
+-- a leaf that this rest begins with
+abbrev Leaf : {A : Type 0} → (A → TokenKind) → (A → ℕ) → ℕ → ℕ → List TokenKind → A → Input → Type 0
+Leaf kind_of at_of at declared ks x j = (ks ≡ kind_of x ∷ j.rest) × (at ≡ at_of x) × (j.at ≡ at + 1) × (j.declared ≡ declared)
+
+identifier_sound : (at declared : ℕ) (ks : List TokenKind) (x : Identifier) (j : Input) → identifier_of at declared ks ≡ read x j → Leaf (λ x. kind.Id x.name) (λ x. x.at) at declared ks x j
+identifier_sound at declared (kind.Id name ∷ ks) x j h =
+    let w = read_is (record { at = at; name = name }) x (input (at + 1) declared ks) j h in
+    (ap (λ n. kind.Id n ∷ ks) (ap (λ y. y.name) w.0) ∙ ap (λ m. kind.Id x.name ∷ m.rest) w.1, ap (λ y. y.at) w.0, sym (ap (λ m. m.at) w.1), sym (ap (λ m. m.declared) w.1))
+identifier_sound at declared [] x j h = absurd (let n : ⊥ = cc in n)
+identifier_sound at declared (kind.Number v ∷ ks) x j h = absurd (let n : ⊥ = cc in n)
+identifier_sound at declared (kind.Text v ∷ ks) x j h = absurd (let n : ⊥ = cc in n)
+identifier_sound at declared (kind.Word v ∷ ks) x j h = absurd (let n : ⊥ = cc in n)
+identifier_sound at declared (kind.Symbol v ∷ ks) x j h = absurd (let n : ⊥ = cc in n)
+
+number_sound : (at declared : ℕ) (ks : List TokenKind) (x : Number) (j : Input) → number_of at declared ks ≡ read x j → Leaf (λ x. kind.Number x.value) (λ x. x.at) at declared ks x j
+number_sound at declared (kind.Number value ∷ ks) x j h =
+    let w = read_is (record { at = at; value = value }) x (input (at + 1) declared ks) j h in
+    (ap (λ n. kind.Number n ∷ ks) (ap (λ y. y.value) w.0) ∙ ap (λ m. kind.Number x.value ∷ m.rest) w.1, ap (λ y. y.at) w.0, sym (ap (λ m. m.at) w.1), sym (ap (λ m. m.declared) w.1))
+number_sound at declared [] x j h = absurd (let n : ⊥ = cc in n)
+number_sound at declared (kind.Id v ∷ ks) x j h = absurd (let n : ⊥ = cc in n)
+number_sound at declared (kind.Text v ∷ ks) x j h = absurd (let n : ⊥ = cc in n)
+number_sound at declared (kind.Word v ∷ ks) x j h = absurd (let n : ⊥ = cc in n)
+number_sound at declared (kind.Symbol v ∷ ks) x j h = absurd (let n : ⊥ = cc in n)
+
+string_sound : (at declared : ℕ) (ks : List TokenKind) (x : CharacterString) (j : Input) → string_of at declared ks ≡ read x j → Leaf (λ x. kind.Text x.characters) (λ x. x.at) at declared ks x j
+string_sound at declared (kind.Text characters ∷ ks) x j h =
+    let w = read_is (record { at = at; characters = characters }) x (input (at + 1) declared ks) j h in
+    (ap (λ n. kind.Text n ∷ ks) (ap (λ y. y.characters) w.0) ∙ ap (λ m. kind.Text x.characters ∷ m.rest) w.1, ap (λ y. y.at) w.0, sym (ap (λ m. m.at) w.1), sym (ap (λ m. m.declared) w.1))
+string_sound at declared [] x j h = absurd (let n : ⊥ = cc in n)
+string_sound at declared (kind.Id v ∷ ks) x j h = absurd (let n : ⊥ = cc in n)
+string_sound at declared (kind.Number v ∷ ks) x j h = absurd (let n : ⊥ = cc in n)
+string_sound at declared (kind.Word v ∷ ks) x j h = absurd (let n : ⊥ = cc in n)
+string_sound at declared (kind.Symbol v ∷ ks) x j h = absurd (let n : ⊥ = cc in n)
+
+abbrev an_identifier : ℕ → List ℕ → Identifier
+an_identifier at name = record { at = at; name = name }
+
+abbrev a_number : ℕ → ℕ → Number
+a_number at value = record { at = at; value = value }
+
+abbrev a_string : ℕ → List ℕ → CharacterString
+a_string at characters = record { at = at; characters = characters }
+
+pub law_identifier : Law (is next.Identifier) any identifier leaf.identifier
+unfolding identifier next_token
+law_identifier = record {
+  sound = λ i x j h. identifier_sound i.at i.declared i.rest x j h;
+  complete = λ i x j d e.
+      ap (identifier_of i.at i.declared) d.0
+      ∙ ap (λ n. read (an_identifier n x.name) (input (i.at + 1) i.declared j.rest)) d.1
+      ∙ ap (λ n. read x (input n i.declared j.rest)) (sym d.2) ∙ ap (λ n. read x (input j.at n j.rest)) (sym d.3);
+  begins = λ i x j d e. ap (λ ks. is next.Identifier (next_of ks)) d.0;
+  shrinks = λ i x j h. let e = ap (λ ks. length ks) (identifier_sound i.at i.declared i.rest x j h).0 in omega arith;
+}
+
+pub law_number : Law (is next.Number) any number leaf.number
+unfolding number next_token
+law_number = record {
+  sound = λ i x j h. number_sound i.at i.declared i.rest x j h;
+  complete = λ i x j d e.
+      ap (number_of i.at i.declared) d.0
+      ∙ ap (λ n. read (a_number n x.value) (input (i.at + 1) i.declared j.rest)) d.1
+      ∙ ap (λ n. read x (input n i.declared j.rest)) (sym d.2) ∙ ap (λ n. read x (input j.at n j.rest)) (sym d.3);
+  begins = λ i x j d e. ap (λ ks. is next.Number (next_of ks)) d.0;
+  shrinks = λ i x j h. let e = ap (λ ks. length ks) (number_sound i.at i.declared i.rest x j h).0 in omega arith;
+}
+
+pub law_string : Law (is next.Text) any character_string leaf.character_string
+unfolding character_string next_token
+law_string = record {
+  sound = λ i x j h. string_sound i.at i.declared i.rest x j h;
+  complete = λ i x j d e.
+      ap (string_of i.at i.declared) d.0
+      ∙ ap (λ n. read (a_string n x.characters) (input (i.at + 1) i.declared j.rest)) d.1
+      ∙ ap (λ n. read x (input n i.declared j.rest)) (sym d.2) ∙ ap (λ n. read x (input j.at n j.rest)) (sym d.3);
+  begins = λ i x j d e. ap (λ ks. is next.Text (next_of ks)) d.0;
+  shrinks = λ i x j h. let e = ap (λ ks. length ks) (string_sound i.at i.declared i.rest x j h).0 in omega arith;
+}
+
+-- ---- directives
+
+abbrev Directive : List ℕ → ℕ → ℕ → List TokenKind → ℕ → Input → Type 0
+Directive spelling at declared ks x j = (ks ≡ kind.Id spelling ∷ j.rest) × (at ≡ x) × (j.at ≡ at + 1) × (j.declared ≡ declared)
+
+spelled : (spelling name : List ℕ) (at declared : ℕ) (ks : List TokenKind) (x : ℕ) (j : Input) (b : Bool) → bytes_eq name spelling ≡ b → (if b then read at (input (at + 1) declared ks) else Err (Wrong (length (kind.Id name ∷ ks)))) ≡ read x j → Directive spelling at declared (kind.Id name ∷ ks) x j
+spelled spelling name at declared ks x j true e h =
+    let w = read_is at x (input (at + 1) declared ks) j h in
+    (ap (λ n. kind.Id n ∷ ks) ((bytes_eq-Decides name spelling).0 e) ∙ ap (λ m. kind.Id spelling ∷ m.rest) w.1, w.0, sym (ap (λ m. m.at) w.1), sym (ap (λ m. m.declared) w.1))
+spelled spelling name at declared ks x j false e h = absurd (let n : ⊥ = cc in n)
+
+directive_sound : (spelling : List ℕ) (at declared : ℕ) (ks : List TokenKind) (x : ℕ) (j : Input) → directive_of spelling at declared ks ≡ read x j → Directive spelling at declared ks x j
+directive_sound spelling at declared (kind.Id name ∷ ks) x j h = spelled spelling name at declared ks x j (bytes_eq name spelling) (λ i. bytes_eq name spelling) h
+directive_sound spelling at declared [] x j h = absurd (let n : ⊥ = cc in n)
+directive_sound spelling at declared (kind.Number v ∷ ks) x j h = absurd (let n : ⊥ = cc in n)
+directive_sound spelling at declared (kind.Text v ∷ ks) x j h = absurd (let n : ⊥ = cc in n)
+directive_sound spelling at declared (kind.Word v ∷ ks) x j h = absurd (let n : ⊥ = cc in n)
+directive_sound spelling at declared (kind.Symbol v ∷ ks) x j h = absurd (let n : ⊥ = cc in n)
+
+pub law_directive : (spelling : List ℕ) → Law (is next.Identifier) any (directive spelling) (token (kind.Id spelling))
+unfolding directive next_token
+law_directive spelling = record {
+  sound = λ i x j h. directive_sound spelling i.at i.declared i.rest x j h;
+  complete = λ i x j d e.
+      ap (directive_of spelling i.at i.declared) d.0
+      ∙ ap (λ b. if b then read i.at (input (i.at + 1) i.declared j.rest) else Err (Wrong (length (kind.Id spelling ∷ j.rest)))) ((bytes_eq-Decides spelling spelling).1 (λ i. spelling))
+      ∙ ap (λ n. read n (input (i.at + 1) i.declared j.rest)) d.1
+      ∙ ap (λ n. read x (input n i.declared j.rest)) (sym d.2) ∙ ap (λ n. read x (input j.at n j.rest)) (sym d.3);
+  begins = λ i x j d e. ap (λ ks. is next.Identifier (next_of ks)) d.0;
+  shrinks = λ i x j h. let e = ap (λ ks. length ks) (directive_sound spelling i.at i.declared i.rest x j h).0 in omega arith;
+}
+
+-- ---- tokens that open
+
+opens_with_room : (room : ℕ) (n : Next) (i : Input) → opening (suc room) n i ≡ expect n i
+unfolding opening expect
+opens_with_room room n i = ap (λ b. if is n (next_token i) then open_where b i else Err (wrong i)) (lt-ltb 0 (suc room) (omega arith))
+
+abbrev Refused : Bool → Input → ℕ → Input → Type 0
+Refused b i at j = (if b then open_where (nat_lt 0 0) i else Err (wrong i)) ≡ read at j → ⊥
+
+never : (b : Bool) (i : Input) (at : ℕ) (j : Input) → Refused b i at j
+never true i at j = λ h. let n : ⊥ = cc in n
+never false i at j = λ h. let n : ⊥ = cc in n
+
+pub law_opening : (k : TokenKind) → IsOnly k → (room : ℕ) → Law (is (class_of k)) any (opening room (class_of k)) (rule.opener room k)
+unfolding opening
+law_opening k o zero = record {
+  sound = λ i at j h. absurd (never (is (class_of k) (next_token i)) i at j h);
+  complete = λ i at j d e. absurd d;
+  begins = λ i at j d e. absurd d;
+  shrinks = λ i at j h. absurd (never (is (class_of k) (next_token i)) i at j h);
+}
+law_opening k o (suc room) =
+    let a = law_expect k o in
+    record {
+      sound = λ i at j h. a.sound i at j (sym (opens_with_room room (class_of k) i) ∙ h);
+      complete = λ i at j d e. opens_with_room room (class_of k) i ∙ a.complete i at j d e;
+      begins = a.begins;
+      shrinks = λ i at j h. a.shrinks i at j (sym (opens_with_room room (class_of k) i) ∙ h);
+    }
+
+pub law_opening_word : (room : ℕ) (v : WordSymbol) → Law (is (next.Word v)) any (opening room (next.Word v)) (rule.opener room (kind.Word v))
+law_opening_word room v = law_opening (kind.Word v) (word_only v) room
+
+pub law_opening_symbol : (room : ℕ) (v : Symbol) → Law (is (next.Symbol v)) any (opening room (next.Symbol v)) (rule.opener room (kind.Symbol v))
+law_opening_symbol room v = law_opening (kind.Symbol v) (symbol_only v) room

@@ -1,0 +1,11 @@
+pub mod NextLemmas
+pub mod NextSets
+pub mod Laws
+pub mod SameRules
+pub mod LeafLaws
+pub mod ChoiceLaws
+pub mod ListLaws
+pub mod SeriesLaws
+pub mod BlockLaws
+pub mod ConstantLaws
+pub mod LoopLemmas

@@ -1,0 +1,17 @@
+-- Turns of a loop, for the code that makes them.
+use Rattle.std.proofs.Common.{◌≡◌, ℕ, zero, suc, ◌+◌, ◌-◌, ◌<◌, ◌≤◌, refl, ap, ◌∙◌, arith}
+use Rattle.mp_ast.specs.Rules.{Input}
+use Rattle.mp_cursor.specs.Nexts.{Nexts}
+use Rattle.mp_cursor.specs.Parsers.{Parser, ◌>>=◌, pure, branch, loop}
+use Rattle.mp_cursor.proofs.Laws.{read}
+
+loop_suc : {A : Type 0} (f : Nexts) (turn : A → Parser A) (n : ℕ) (found : A) (i : Input) → loop f turn (suc n) found i ≡ branch f (turn found >>= loop f turn n) (pure found) i
+unfolding loop
+loop_suc f turn n found i = refl
+
+pub loop_more : {A : Type 0} (f : Nexts) (turn : A → Parser A) (n at : ℕ) (found : A) (i : Input) → at < n → loop f turn (n - at) found i ≡ branch f (turn found >>= loop f turn (n - (at + 1))) (pure found) i
+loop_more f turn n at found i h = ap (λ m. loop f turn m found i) (let e : n - at ≡ suc (n - (at + 1)) = omega arith in e) ∙ loop_suc f turn (n - (at + 1)) found i
+
+pub loop_done : {A : Type 0} (f : Nexts) (turn : A → Parser A) (n at : ℕ) (found : A) (i : Input) → n ≤ at → loop f turn (n - at) found i ≡ read found i
+unfolding loop
+loop_done f turn n at found i h = ap (λ m. loop f turn m found i) (let e : n - at ≡ zero = omega arith in e)

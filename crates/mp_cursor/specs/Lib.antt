@@ -1,0 +1,4 @@
+pub mod Nexts
+pub mod Parsers
+pub mod Leaves
+pub mod CursorView
