@@ -1,2 +1,5 @@
 pub mod LoopLemmas
 pub mod RoomLemmas
+pub mod Groupings
+pub mod LastLaws
+pub mod HeadingLaws
