@@ -1,5 +1,5 @@
 -- The laws of type denoters: the parsers read exactly what the grammar allows.
-use Rattle.std.proofs.Common.{◌≡◌, ◌⊎◌, inl, inr, ℕ, zero, suc, Bool, true, false, List, [], ◌∷◌, ◌++◌, Option, Some, None, refl, sym, ap, ◌∙◌, subst}
+use Rattle.std.proofs.Common.{◌≡◌, ◌⊎◌, inl, inr, ℕ, zero, suc, false, List, [], ◌∷◌, Option, Some, None, refl, sym, ap, ◌∙◌, subst}
 use Rattle.mp_ast.specs.declared.tokens.TokenKind.{TokenKind}
 use Rattle.mp_ast.specs.declared.tokens.TokenKind.TheVariants as kind
 use Rattle.mp_ast.specs.declared.words.WordSymbol.{WordSymbol}
@@ -26,10 +26,10 @@ use Rattle.mp_cursor.specs.Parsers.{Parser, next_token, branch}
 use Rattle.mp_cursor.specs.Leaves.{signs}
 use Rattle.mp_cursor.proofs.NextSets.{apart_is}
 use Rattle.mp_cursor.proofs.Laws.{Law, Same, law_pure, law_then, law_map, law_followed, law_begun, law_as, law_word, law_symbol, law_never, symbol_only, next_is}
-use Rattle.mp_cursor.proofs.SameRules.{same_refl, same_trans, same_sym, same_then, same_or, same_value, or_grouped, or_then, then_grouped, gives_first, behind_list}
+use Rattle.mp_cursor.proofs.SameRules.{same_refl, same_trans, same_sym, same_then, same_or, or_grouped, or_then, gives_first, behind_list}
 use Rattle.mp_cursor.proofs.LeafLaws.{law_identifier, law_opening_word}
 use Rattle.mp_cursor.proofs.ChoiceLaws.{law_branch, law_optional}
-use Rattle.mp_cursor.proofs.ListLaws.{Falls, falls_expect, falls_then, law_many_from}
+use Rattle.mp_cursor.proofs.ListLaws.{falls_expect, falls_then, law_many_from}
 use Rattle.mp_cursor.proofs.SeriesLaws.{law_series}
 use Rattle.mp_cursor.proofs.ConstantLaws.{law_identifiers, law_sign, law_constant, law_constants}
 use Rattle.mp_parse_type.specs.Types as p
@@ -290,3 +290,117 @@ module _ (room : ℕ) (q : p.Deeper) (r : g.Deeper) (behind : BehindLaws q r) wh
       law_then law_tag refl (λ tag.
       law_then (law_word w.Of) refl (λ of.
       law_then (law_variants behind.field_list) refl (λ found. law_pure (a_part at tag found) after_fields)))))
+
+  law_optional_part : Law (either (is (Word w.Case)) after_fields) after_fields (Rattle.mp_cursor.specs.Parsers.optional (is (Word w.Case)) (p.variant_part room q)) (optional variant_part)
+  law_optional_part = law_optional (is (Word w.Case)) after_fields law_variant_part refl refl
+
+  -- ---- field lists
+
+  abbrev part : Type 0
+  part = Option (VariantPart Denoter)
+
+  -- behind the sections: a variant part behind a `;`, and perhaps one more `;`
+  abbrev last_part : Rule part
+  last_part = optional (symbol s.Semicolon >>ʳ g.variant_part room r) >>=ʳ and_semicolon
+
+  -- the same, as the parser finds it
+  abbrev ending : Rule part
+  ending = (symbol s.Semicolon >>ʳ optional variant_part) <|>ʳ gives None
+
+  ending_same : Same ending last_part
+  ending_same = record { to = to; back = λ i x j u. back i x j u.0 u.1 u.2 u.3 }
+    where
+      to_last : (i : Input) (x : part) (j : Input) (at : ℕ) (m : Input) → symbol s.Semicolon i at m → optional variant_part m x j → last_part i x j
+      to_last i x j at m k (inl u) =
+          let v = u.2 in
+          let o = v.3 in
+          (Some v.0, v.1, inl (v.0, v.1, (at, m, k, v.2), (refl, refl)), (o.0, o.1, o.2, (ap Some o.3.0 ∙ u.3.0, o.3.1 ∙ u.3.1)))
+      to_last i x j at m k (inr u) = (None, i, inr (refl, refl), (Some at, m, inl (at, m, k, (refl, refl)), u))
+
+      to : (i : Input) (x : part) (j : Input) → ending i x j → last_part i x j
+      to i x j (inl u) = to_last i x j u.0 u.1 u.2 u.3
+      to i x j (inr u) = (None, i, inr (refl, refl), (None, i, inr (refl, refl), u))
+
+      -- no variant part: a `;` alone, or nothing
+      back_none : (i : Input) (x : part) (j : Input) (at : Option ℕ) (m : Input) → optional (symbol s.Semicolon) i at m → None ≡ x → m ≡ j → ending i x j
+      back_none i x j at m (inl u) e f = inl (u.0, u.1, u.2, inr (e, u.3.1 ∙ f))
+      back_none i x j at m (inr u) e f = inr (e, u.1 ∙ f)
+
+      back : (i : Input) (x : part) (j : Input) (y : part) (m : Input) → optional (symbol s.Semicolon >>ʳ g.variant_part room r) i y m → and_semicolon y m x j → ending i x j
+      back i x j y m (inl u) v =
+          let k = u.2 in
+          inl (k.0, k.1, k.2, inl (u.0, v.1, (u.0, u.1, k.3, (v.0, v.1, subst (λ l. optional (symbol s.Semicolon) l v.0 v.1) (sym u.3.1) v.2, (refl, refl))), (u.3.0 ∙ v.3.0, v.3.1)))
+      back i x j y m (inr u) v = back_none i x j v.0 v.1 (subst (λ l. optional (symbol s.Semicolon) l v.0 v.1) (sym u.1) v.2) (u.0 ∙ v.3.0) v.3.1
+
+  abbrev a_section : Rule (Section Denoter)
+  a_section = g.section (g.denoter_with room r)
+
+  abbrev more_sections : Rule (List (Section Denoter))
+  more_sections = many (symbol s.Semicolon >>ʳ a_section)
+
+  law_fixed_fields : Law name after_fields (p.fixed_fields room q) (a_section >>=ʳ (λ first. more_sections >>=ʳ (λ more. ending >>=ʳ (λ part. gives (d.Fields (first ∷ more) part)))))
+  unfolding p.fixed_fields p.further_section
+  law_fixed_fields = law_then (law_section_of law_denoter_with) refl (λ first.
+      law_with_last (kind.Symbol s.Semicolon) (symbol_only s.Semicolon) name after_fields d.Fields None (law_section_of law_denoter_with) law_optional_part refl refl refl refl refl (first ∷ []))
+
+  -- a variant part behind a `;`, where there is one
+  abbrev semicolon_part : Rule part
+  semicolon_part = optional (symbol s.Semicolon >>ʳ g.variant_part room r)
+
+  abbrev behind_sections : List (Section Denoter) → Rule Denoter
+  behind_sections fixed = semicolon_part >>=ʳ (λ part. and_semicolon (d.Fields fixed part))
+
+  sections_same : (fixed : List (Section Denoter)) → Same (ending >>=ʳ (λ part. gives (d.Fields fixed part))) (behind_sections fixed)
+  sections_same fixed = same_trans
+      (same_then ending_same (λ part. same_refl (gives (d.Fields fixed part))))
+      (regrouped (λ part. between (optional (symbol s.Semicolon)) part (λ part. gives (d.Fields fixed part))))
+
+  fixed_same : Same (a_section >>=ʳ (λ first. more_sections >>=ʳ (λ more. ending >>=ʳ (λ part. gives (d.Fields (first ∷ more) part))))) (g.fixed_fields room r >>=ʳ and_semicolon)
+  fixed_same = same_trans
+      (same_then (same_refl a_section) (λ first. same_then (same_refl more_sections) (λ more. sections_same (first ∷ more))))
+      (same_sym (same_trans
+      (regrouped (λ fixed. regrouped (λ part. gives_first (d.Fields fixed part) and_semicolon)))
+      (regrouped (λ first. map_then (λ more. first ∷ more) behind_sections))))
+
+  abbrev no_sections : part → Denoter
+  no_sections part = d.Fields [] part
+
+  last_same : Same (no_sections <$>ʳ optional variant_part) ((g.variant_fields room r >>=ʳ and_semicolon) <|>ʳ gives (d.Fields [] None))
+  last_same = same_trans
+      (or_then (Some <$>ʳ variant_part) (gives None) (λ part. gives (no_sections part)))
+      (same_or
+      (same_trans
+      (map_then Some (λ part. gives (no_sections part)))
+      (same_trans
+      (regrouped (λ part. between (optional (symbol s.Semicolon)) part (λ part. gives (no_sections (Some part)))))
+      (same_sym (regrouped (λ part. gives_first (no_sections (Some part)) and_semicolon)))))
+      (gives_first None (λ part. gives (no_sections part))))
+
+  fields_same : Same ((g.fixed_fields room r >>=ʳ and_semicolon) <|>ʳ ((g.variant_fields room r >>=ʳ and_semicolon) <|>ʳ gives (d.Fields [] None))) (g.field_list_with room r)
+  fields_same = same_trans (same_sym (or_grouped _ _ _)) (same_or (same_sym (or_then (g.fixed_fields room r) (g.variant_fields room r) and_semicolon)) (same_refl (gives (d.Fields [] None))))
+
+  law_field_list_with : Law fields_begin after_fields (p.field_list_with room q) (g.field_list_with room r)
+  unfolding p.field_list_with
+  law_field_list_with = law_begun fields_begin refl (law_as fields_same (law_branch name (law_as fixed_same law_fixed_fields) refl refl (law_as last_same (law_map no_sections law_optional_part))))
+
+-- ---- the parsers, where so many more openers may stand open
+
+never : BehindLaws (p.behind zero) (g.behind zero)
+unfolding p.behind g.behind
+never = record { denoter = law_never denoter_begins after_denoter; field_list = law_never fields_begin after_fields }
+
+law_behind : (room : ℕ) → BehindLaws (p.behind room) (g.behind room)
+unfolding p.behind g.behind
+law_behind zero = never
+law_behind (suc room) = record {
+  denoter = law_denoter_with room (p.behind room) (g.behind room) (law_behind room);
+  field_list = law_field_list_with room (p.behind room) (g.behind room) (law_behind room);
+}
+
+-- a type denoter
+pub law_denoter : (room : ℕ) → Law denoter_begins after_denoter (p.denoter room) (g.denoter room)
+law_denoter room = law_denoter_with room (p.behind room) (g.behind room) (law_behind room)
+
+-- names of one type
+pub law_section : (room : ℕ) → Law name after_denoter (p.section (p.denoter room)) (g.section (g.denoter room))
+law_section room = law_section_of (law_denoter room)
