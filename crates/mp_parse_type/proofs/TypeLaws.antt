@@ -21,25 +21,29 @@ use Rattle.mp_ast.specs.LeafGrammar as leaf
 use Rattle.mp_ast.specs.TypeGrammar as g
 use Rattle.mp_cursor.specs.declared.next.Next.TheVariants as next
 use Rattle.mp_cursor.specs.declared.next.Next.TheVariants.{Word, Symbol}
-use Rattle.mp_cursor.specs.Nexts.{Nexts, is, any, either, among, but}
+use Rattle.mp_cursor.specs.Nexts.{Nexts, class_of, is, any, either, among, but}
 use Rattle.mp_cursor.specs.Parsers.{Parser, next_token, branch}
+use Rattle.mp_cursor.specs.Parsers as parser
 use Rattle.mp_cursor.specs.Leaves.{signs}
 use Rattle.mp_cursor.proofs.NextSets.{apart_is}
 use Rattle.mp_cursor.proofs.Laws.{Law, Same, law_pure, law_then, law_map, law_followed, law_begun, law_as, law_word, law_symbol, law_never, symbol_only, next_is}
 use Rattle.mp_cursor.proofs.SameRules.{same_refl, same_trans, same_sym, same_then, same_or, or_grouped, or_then, gives_first, behind_list}
 use Rattle.mp_cursor.proofs.LeafLaws.{law_identifier, law_opening_word}
 use Rattle.mp_cursor.proofs.ChoiceLaws.{law_branch, law_optional}
-use Rattle.mp_cursor.proofs.ListLaws.{falls_expect, falls_then, law_many_from}
+use Rattle.mp_cursor.proofs.ListLaws.{Falls, falls_expect, falls_then, law_many_from}
 use Rattle.mp_cursor.proofs.SeriesLaws.{law_series}
 use Rattle.mp_cursor.proofs.ConstantLaws.{law_identifiers, law_sign, law_constant, law_constants}
 use Rattle.mp_parse_type.specs.Types as p
-use Rattle.mp_parse_type.proofs.Groupings.{Splits, law_split, regrouped, map_then, between, last_first}
+use Rattle.mp_parse_type.proofs.Groupings.{falls_behind, Splits, law_split, regrouped, map_then, between, last_first}
 use Rattle.mp_parse_type.proofs.LastLaws.{law_with_last}
 
 -- ---- what begins and what may follow
 
-abbrev pub name : Nexts
+abbrev name : Nexts
 name = is next.Identifier
+
+abbrev pub section_begins : Nexts
+section_begins = is next.Identifier
 
 abbrev pub simple_begins : Nexts
 simple_begins = among (next.Identifier ∷ next.Number ∷ next.Text ∷ Symbol s.Plus ∷ Symbol s.Minus ∷ Symbol s.LeftParen ∷ [])
@@ -87,7 +91,7 @@ law_named_type = law_then law_identifier refl (λ name. law_branch (is (Symbol s
 abbrev Named : Input → Constant → Input → Type 0
 Named i first m = (name : Identifier) × leaf.identifier i name m × (c.Name None name ≡ first)
 
-not_name : (k : TokenKind) (i : Input) (at : ℕ) (j : Input) → rule.token k i at j → name (Rattle.mp_cursor.specs.Nexts.class_of k) ≡ false → name (next_token i) ≡ false
+not_name : (k : TokenKind) (i : Input) (at : ℕ) (j : Input) → rule.token k i at j → name (class_of k) ≡ false → name (next_token i) ≡ false
 not_name k i at j d e = ap name (next_is k i at j d) ∙ e
 
 -- A constant is a name, or its first token is none.
@@ -291,7 +295,7 @@ module _ (room : ℕ) (q : p.Deeper) (r : g.Deeper) (behind : BehindLaws q r) wh
       law_then (law_word w.Of) refl (λ of.
       law_then (law_variants behind.field_list) refl (λ found. law_pure (a_part at tag found) after_fields)))))
 
-  law_optional_part : Law (either (is (Word w.Case)) after_fields) after_fields (Rattle.mp_cursor.specs.Parsers.optional (is (Word w.Case)) (p.variant_part room q)) (optional variant_part)
+  law_optional_part : Law (either (is (Word w.Case)) after_fields) after_fields (parser.optional (is (Word w.Case)) (p.variant_part room q)) (optional variant_part)
   law_optional_part = law_optional (is (Word w.Case)) after_fields law_variant_part refl refl
 
   -- ---- field lists
@@ -332,13 +336,13 @@ module _ (room : ℕ) (q : p.Deeper) (r : g.Deeper) (behind : BehindLaws q r) wh
           inl (k.0, k.1, k.2, inl (u.0, v.1, (u.0, u.1, k.3, (v.0, v.1, subst (λ l. optional (symbol s.Semicolon) l v.0 v.1) (sym u.3.1) v.2, (refl, refl))), (u.3.0 ∙ v.3.0, v.3.1)))
       back i x j y m (inr u) v = back_none i x j v.0 v.1 (subst (λ l. optional (symbol s.Semicolon) l v.0 v.1) (sym u.1) v.2) (u.0 ∙ v.3.0) v.3.1
 
-  abbrev a_section : Rule (Section Denoter)
-  a_section = g.section (g.denoter_with room r)
+  abbrev one_section : Rule (Section Denoter)
+  one_section = g.section (g.denoter_with room r)
 
   abbrev more_sections : Rule (List (Section Denoter))
-  more_sections = many (symbol s.Semicolon >>ʳ a_section)
+  more_sections = many (symbol s.Semicolon >>ʳ one_section)
 
-  law_fixed_fields : Law name after_fields (p.fixed_fields room q) (a_section >>=ʳ (λ first. more_sections >>=ʳ (λ more. ending >>=ʳ (λ part. gives (d.Fields (first ∷ more) part)))))
+  law_fixed_fields : Law name after_fields (p.fixed_fields room q) (one_section >>=ʳ (λ first. more_sections >>=ʳ (λ more. ending >>=ʳ (λ part. gives (d.Fields (first ∷ more) part)))))
   unfolding p.fixed_fields p.further_section
   law_fixed_fields = law_then (law_section_of law_denoter_with) refl (λ first.
       law_with_last (kind.Symbol s.Semicolon) (symbol_only s.Semicolon) name after_fields d.Fields None (law_section_of law_denoter_with) law_optional_part refl refl refl refl refl (first ∷ []))
@@ -355,9 +359,9 @@ module _ (room : ℕ) (q : p.Deeper) (r : g.Deeper) (behind : BehindLaws q r) wh
       (same_then ending_same (λ part. same_refl (gives (d.Fields fixed part))))
       (regrouped (λ part. between (optional (symbol s.Semicolon)) part (λ part. gives (d.Fields fixed part))))
 
-  fixed_same : Same (a_section >>=ʳ (λ first. more_sections >>=ʳ (λ more. ending >>=ʳ (λ part. gives (d.Fields (first ∷ more) part))))) (g.fixed_fields room r >>=ʳ and_semicolon)
+  fixed_same : Same (one_section >>=ʳ (λ first. more_sections >>=ʳ (λ more. ending >>=ʳ (λ part. gives (d.Fields (first ∷ more) part))))) (g.fixed_fields room r >>=ʳ and_semicolon)
   fixed_same = same_trans
-      (same_then (same_refl a_section) (λ first. same_then (same_refl more_sections) (λ more. sections_same (first ∷ more))))
+      (same_then (same_refl one_section) (λ first. same_then (same_refl more_sections) (λ more. sections_same (first ∷ more))))
       (same_sym (same_trans
       (regrouped (λ fixed. regrouped (λ part. gives_first (d.Fields fixed part) and_semicolon)))
       (regrouped (λ first. map_then (λ more. first ∷ more) behind_sections))))
@@ -385,6 +389,9 @@ module _ (room : ℕ) (q : p.Deeper) (r : g.Deeper) (behind : BehindLaws q r) wh
 
 -- ---- the parsers, where so many more openers may stand open
 
+abbrev a_section : List Identifier → Denoter → Section Denoter
+a_section names of = record { names = names; of = of }
+
 never : BehindLaws (p.behind zero) (g.behind zero)
 unfolding p.behind g.behind
 never = record { denoter = law_never denoter_begins after_denoter; field_list = law_never fields_begin after_fields }
@@ -402,5 +409,9 @@ pub law_denoter : (room : ℕ) → Law denoter_begins after_denoter (p.denoter r
 law_denoter room = law_denoter_with room (p.behind room) (g.behind room) (law_behind room)
 
 -- names of one type
-pub law_section : (room : ℕ) → Law name after_denoter (p.section (p.denoter room)) (g.section (g.denoter room))
+pub law_section : (room : ℕ) → Law section_begins after_denoter (p.section (p.denoter room)) (g.section (g.denoter room))
 law_section room = law_section_of (law_denoter room)
+
+pub falls_section : (room : ℕ) → Falls (p.section (p.denoter room))
+unfolding p.section
+falls_section room = falls_behind law_identifiers (λ names. falls_then (falls_expect (kind.Symbol s.Colon) (symbol_only s.Colon)) (λ at. law_then (law_denoter room) refl (λ of. law_pure (a_section names of) after_denoter)))
