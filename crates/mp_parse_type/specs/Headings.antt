@@ -1,5 +1,5 @@
 -- Parsers of headings of procedures and functions.
-use Rattle.std.specs.Prelude.{ℕ, zero, suc, List, [], ◌∷◌, Option, Some, None}
+use Rattle.std.specs.Prelude.{ℕ, zero, suc, List, [], ◌∷◌, Option}
 use Rattle.mp_ast.specs.declared.words.WordSymbol.TheVariants as w
 use Rattle.mp_ast.specs.declared.symbols.Symbol.TheVariants as s
 use Rattle.mp_ast.specs.declared.leaves.Identifier.{Identifier}

@@ -184,7 +184,7 @@ module _ (room : ℕ) (behind : Deeper) where
   unfoldable pub denoter_with : Parser Denoter
   denoter_with =
       branch (is (Symbol s.Caret)) pointer_type
-      (branch (is (Word w.Packed)) packed_structure (branch structure_words (structure None) simple_type))
+      (branch structure_words (structure None) (branch (is (Word w.Packed)) packed_structure simple_type))
 
   -- ---- field lists
 

@@ -263,11 +263,11 @@ pub fn denoter(alloc: Global, tokens: &mut Cursor<'_>, room: usize) -> Result<De
     if tokens.sees(Next::Symbol(Symbol::Caret)) {
         return pointer_type(tokens);
     }
-    if tokens.sees(Next::Word(WordSymbol::Packed)) {
-        return packed_structure(alloc, tokens, room);
-    }
     if is_structure_word(tokens.next()) {
         return structure(alloc, tokens, room, None);
+    }
+    if tokens.sees(Next::Word(WordSymbol::Packed)) {
+        return packed_structure(alloc, tokens, room);
     }
     simple_type(alloc, tokens)
 }
