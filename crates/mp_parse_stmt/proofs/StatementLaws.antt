@@ -33,17 +33,12 @@ use Rattle.mp_parse_stmt.proofs.ChoiceOrder.{same_choices}
 abbrev pub after_statement : Nexts
 after_statement = among (Symbol s.Semicolon ∷ Word w.End ∷ Word w.Else ∷ Word w.Until ∷ next.End ∷ [])
 
--- what a statement begins with; what may follow one stands behind an empty one
-abbrev pub statement_begins : Nexts
-statement_begins =
-    among (next.Number ∷ next.Identifier ∷ Word w.Goto ∷ Word w.Begin ∷ Word w.If ∷ Word w.Case ∷ Word w.While ∷ Word w.Repeat ∷ Word w.For ∷ Word w.With
-    ∷ Symbol s.Semicolon ∷ Word w.End ∷ Word w.Else ∷ Word w.Until ∷ next.End ∷ [])
-
--- the same without a label
+-- what a statement without a label begins with; an empty one stands before what may follow it
 abbrev pub unlabelled_begins : Nexts
-unlabelled_begins =
-    among (next.Identifier ∷ Word w.Goto ∷ Word w.Begin ∷ Word w.If ∷ Word w.Case ∷ Word w.While ∷ Word w.Repeat ∷ Word w.For ∷ Word w.With
-    ∷ Symbol s.Semicolon ∷ Word w.End ∷ Word w.Else ∷ Word w.Until ∷ next.End ∷ [])
+unlabelled_begins = either (among (next.Identifier ∷ Word w.Goto ∷ Word w.Begin ∷ Word w.If ∷ Word w.Case ∷ Word w.While ∷ Word w.Repeat ∷ Word w.For ∷ Word w.With ∷ [])) after_statement
+
+abbrev pub statement_begins : Nexts
+statement_begins = either (is next.Number) unlabelled_begins
 
 -- what may follow statements with semicolons between them
 abbrev pub after_sequence : Nexts
