@@ -1,2 +1,5 @@
 pub mod RoomLemmas
 pub mod SeriesLemmas
+pub mod ElseLaws
+pub mod ChoiceOrder
+pub mod StatementLaws

@@ -91,8 +91,8 @@ further_statement statement = and_one (expect (Symbol s.Semicolon) >> statement)
 abbrev pub further_statements : Parser Statement → List Statement → Parser (List Statement)
 further_statements statement = repeated (is (Symbol s.Semicolon)) (further_statement statement)
 
-unfoldable pub sequence_of : Parser Statement → Parser (List Statement)
-sequence_of statement = do
+unfoldable pub sequence : Parser Statement → Parser (List Statement)
+sequence statement = do
   first ← statement
   further_statements statement (first ∷ [])
 
@@ -129,7 +129,7 @@ module _ (room : ℕ) (behind : Deeper) where
   unfoldable pub compound_statement : Parser Statement
   compound_statement = do
     at ← opening room (Word w.Begin)
-    statements ← sequence_of behind.statement
+    statements ← sequence behind.statement
     expect (Word w.End)
     pure (t.Compound at statements)
 
@@ -162,7 +162,7 @@ module _ (room : ℕ) (behind : Deeper) where
   unfoldable pub repeat_statement : Parser Statement
   repeat_statement = do
     at ← opening room (Word w.Repeat)
-    statements ← sequence_of behind.statement
+    statements ← sequence behind.statement
     expect (Word w.Until)
     condition ← behind.expression
     pure (t.Repeat at statements condition)
@@ -213,6 +213,3 @@ behind (suc room) = record { expression = expression room; access = access room;
 
 abbrev pub statement : ℕ → Parser Statement
 statement room = statement_with room (behind room)
-
-abbrev pub sequence : ℕ → Parser (List Statement)
-sequence room = sequence_of (statement room)

@@ -54,13 +54,13 @@ fn further_statements(
 
 /// Statements with semicolons between them (ISO 7185, 6.8.3.1), where so many more openers may stand open.
 #[cycle(statements)]
-#[tactic(auto, unfolding(crate::specs::Statements::sequence_of))]
+#[tactic(auto, unfolding(crate::specs::Statements::sequence))]
 pub fn sequence(
     alloc: Global,
     tokens: &mut Cursor<'_>,
     room: usize,
 ) -> Result<Items<Statement>, Failure>
-    ensures { Reads (spec.sequence room tokens.old) result tokens.new }
+    ensures { Reads (spec.sequence (spec.statement room) tokens.old) result tokens.new }
 {
     let first = statement(alloc, tokens, room)?;
     let mut found = Items::new(alloc);
