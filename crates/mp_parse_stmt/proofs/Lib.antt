@@ -1,5 +1,4 @@
 pub mod RoomLemmas
-pub mod SeriesLemmas
 pub mod ElseLaws
 pub mod ChoiceOrder
 pub mod StatementLaws

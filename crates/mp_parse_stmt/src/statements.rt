@@ -123,7 +123,7 @@ fn further_arm(
 }
 
 #[cycle(statements)]
-#[tactic(auto, using(crate::proofs::SeriesLemmas::series_more, crate::proofs::SeriesLemmas::series_done), unfolding(mp_cursor::specs::Parsers::repeated_series))]
+#[tactic(auto, using(mp_cursor::proofs::LoopLemmas::series_more, mp_cursor::proofs::LoopLemmas::series_done), unfolding(mp_cursor::specs::Parsers::repeated_series))]
 fn further_arms(
     alloc: Global,
     tokens: &mut Cursor<'_>,

@@ -1,13 +1,12 @@
 -- Groupings of rules that the grammar and the parsers have in different ways.
-use Rattle.std.proofs.Common.{◌≡◌, ◌⊎◌, inl, inr, ◌≤◌, Bool, true, false, length, ap, ◌∙◌, arith}
+use Rattle.std.proofs.Common.{◌≡◌, ◌⊎◌, inl, inr, ◌≤◌, Bool, true, false, length, ap, ◌∙◌}
 use Rattle.std.specs.Prelude.{if◌then◌else◌}
 use Rattle.mp_ast.specs.Rules.{Input, Rule, gives}
 use Rattle.mp_ast.specs.Rules.{◌>>=◌ as ◌>>=ʳ◌, ◌>>◌ as ◌>>ʳ◌, ◌<$>◌ as ◌<$>ʳ◌, ◌<|>◌ as ◌<|>ʳ◌}
 use Rattle.mp_cursor.specs.Nexts.{Nexts, either}
-use Rattle.mp_cursor.specs.Parsers.{Parser, ◌>>=◌, next_token, branch}
+use Rattle.mp_cursor.specs.Parsers.{Parser, next_token, branch}
 use Rattle.mp_cursor.proofs.NextSets.{within, within_is, in_first, in_second}
-use Rattle.mp_cursor.proofs.Laws.{Law, Same, read, both_ok}
-use Rattle.mp_cursor.proofs.ListLaws.{Falls}
+use Rattle.mp_cursor.proofs.Laws.{Law, Same, read}
 use Rattle.mp_cursor.proofs.SameRules.{same_refl, same_sym, same_trans, same_then, same_or, or_grouped, or_swapped, then_grouped, gives_first}
 
 -- what goes on behind two, goes on behind the second
@@ -60,13 +59,3 @@ module _ {A : Type 0} {f h g : Nexts} {p q : Parser A} {r s t : Rule A} (test : 
   }
 
 -- ---- parsers that take a token at least
-
--- the token is taken behind something else
-pub falls_behind : {A B : Type 0} {f g : Nexts} {p : Parser A} {r : Rule A} {q : A → Parser B} → Law f g p r → ((x : A) → Falls (q x)) → Falls (p >>= q)
-falls_behind {p = p} {q = q} a b = record {
-  by = λ i y j h.
-      let o = both_ok (p i) q y j h in
-      let l = a.shrinks i o.0 o.1 o.2 in
-      let n = (b o.0).by o.1 y j o.3 in
-      omega arith;
-}

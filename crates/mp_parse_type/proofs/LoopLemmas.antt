@@ -3,23 +3,9 @@ use Rattle.std.proofs.Common.{◌≡◌, ℕ, zero, suc, ◌+◌, ◌-◌, ◌<�
 use Rattle.mp_ast.specs.Rules.{Input}
 use Rattle.mp_cursor.specs.declared.next.Next.{Next}
 use Rattle.mp_cursor.specs.Nexts.{Nexts, is}
-use Rattle.mp_cursor.specs.Parsers.{Parser, ◌>>=◌, ◌>>◌, pure, branch, expect, series}
+use Rattle.mp_cursor.specs.Parsers.{Parser, ◌>>=◌, ◌>>◌, pure, branch, expect}
 use Rattle.mp_cursor.proofs.Laws.{read}
 use Rattle.mp_parse_type.specs.Types.{series_and_last}
-
--- ---- lists that may end with a separator
-
-module _ {A : Type 0} (separator : Next) (f : Nexts) (turn : A → Parser A) where
-  series_suc : (n : ℕ) (found : A) (i : Input) → series separator f turn (suc n) found i ≡ branch (is separator) (expect separator >> branch f (turn found >>= series separator f turn n) (pure found)) (pure found) i
-  unfolding series
-  series_suc n found i = refl
-
-  pub series_more : (n at : ℕ) (found : A) (i : Input) → at < n → series separator f turn (n - at) found i ≡ branch (is separator) (expect separator >> branch f (turn found >>= series separator f turn (n - (at + 1))) (pure found)) (pure found) i
-  series_more n at found i h = ap (λ m. series separator f turn m found i) (let e : n - at ≡ suc (n - (at + 1)) = omega arith in e) ∙ series_suc (n - (at + 1)) found i
-
-  pub series_done : (n at : ℕ) (found : A) (i : Input) → n ≤ at → series separator f turn (n - at) found i ≡ read found i
-  unfolding series
-  series_done n at found i h = ap (λ m. series separator f turn m found i) (let e : n - at ≡ zero = omega arith in e)
 
 -- ---- lists that end with something else
 

@@ -30,11 +30,11 @@ use Rattle.mp_cursor.proofs.Laws.{Law, Same, law_pure, law_then, law_map, law_fo
 use Rattle.mp_cursor.proofs.SameRules.{same_refl, same_trans, same_sym, same_then, same_or, or_grouped, or_then, gives_first, behind_list}
 use Rattle.mp_cursor.proofs.LeafLaws.{law_identifier, law_opening_word}
 use Rattle.mp_cursor.proofs.ChoiceLaws.{law_branch, law_optional}
-use Rattle.mp_cursor.proofs.ListLaws.{Falls, falls_expect, falls_then, law_many_from}
+use Rattle.mp_cursor.proofs.ListLaws.{falls_last, Falls, falls_expect, falls_then, law_many_from}
 use Rattle.mp_cursor.proofs.SeriesLaws.{law_series}
 use Rattle.mp_cursor.proofs.ConstantLaws.{law_identifiers, law_sign, law_constant, law_constants}
 use Rattle.mp_parse_type.specs.Types as p
-use Rattle.mp_parse_type.proofs.Groupings.{falls_behind, Splits, law_split, regrouped, map_then, between, last_first}
+use Rattle.mp_parse_type.proofs.Groupings.{Splits, law_split, regrouped, map_then, between, last_first}
 use Rattle.mp_parse_type.proofs.LastLaws.{law_with_last}
 
 -- ---- what begins and what may follow
@@ -414,4 +414,4 @@ law_section room = law_section_of (law_denoter room)
 
 pub falls_section : (room : ℕ) → Falls (p.section (p.denoter room))
 unfolding p.section
-falls_section room = falls_behind law_identifiers (λ names. falls_then (falls_expect (kind.Symbol s.Colon) (symbol_only s.Colon)) (λ at. law_then (law_denoter room) refl (λ of. law_pure (a_section names of) after_denoter)))
+falls_section room = falls_last law_identifiers (λ names. falls_then (falls_expect (kind.Symbol s.Colon) (symbol_only s.Colon)) (λ at. law_then (law_denoter room) refl (λ of. law_pure (a_section names of) after_denoter)))

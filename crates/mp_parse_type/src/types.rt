@@ -329,7 +329,7 @@ fn begins_constant(next: Next) -> bool
 }
 
 #[cycle(denoters)]
-#[tactic(auto, using(crate::proofs::LoopLemmas::series_more, crate::proofs::LoopLemmas::series_done), unfolding(mp_cursor::specs::Parsers::repeated_series))]
+#[tactic(auto, using(mp_cursor::proofs::LoopLemmas::series_more, mp_cursor::proofs::LoopLemmas::series_done), unfolding(mp_cursor::specs::Parsers::repeated_series))]
 fn further_variants(
     alloc: Global,
     tokens: &mut Cursor<'_>,
