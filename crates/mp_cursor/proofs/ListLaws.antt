@@ -6,14 +6,14 @@ use Rattle.mp_ast.specs.Rules.{Input, Rule, gives, token, Many, no_more, one_mor
 use Rattle.mp_ast.specs.Rules.{◌>>=◌ as ◌>>=ʳ◌, ◌>>◌ as ◌>>ʳ◌, ◌<$>◌ as ◌<$>ʳ◌}
 use Rattle.mp_ast.specs.Rules as rule
 use Rattle.mp_cursor.specs.Nexts.{Nexts}
-use Rattle.mp_cursor.specs.Parsers.{Parser, and_then, ◌>>=◌, ◌>>◌, ◌<$>◌, pure, next_token, branch, loop, repeated, and_one, and_all, separated, expect, opening, left}
+use Rattle.mp_cursor.specs.Parsers.{Parser, and_then, ◌>>=◌, ◌>>◌, ◌<$>◌, pure, next_token, branch, loop, repeated, and_one, and_all, separated, expect, opening, identifier, number, left}
 use Rattle.mp_cursor.specs.Nexts.{is, class_of}
 use Rattle.mp_ast.specs.declared.tokens.TokenKind.{TokenKind}
 use Rattle.mp_ast.specs.declared.tokens.TokenKind.TheVariants as kind
 use Rattle.mp_ast.specs.declared.words.WordSymbol.{WordSymbol}
 use Rattle.mp_ast.specs.declared.symbols.Symbol.{Symbol}
 use Rattle.mp_cursor.specs.declared.next.Next.TheVariants as next
-use Rattle.mp_cursor.proofs.LeafLaws.{law_opening}
+use Rattle.mp_cursor.proofs.LeafLaws.{law_opening, law_identifier, law_number}
 use Rattle.mp_cursor.proofs.NextSets.{within, apart, within_is, apart_is, either_by, in_first, in_second, within_any, within_itself, within_both}
 use Rattle.mp_cursor.specs.Nexts.{either}
 use Rattle.mp_cursor.proofs.SameRules.{same_value, same_itself}
@@ -44,6 +44,22 @@ falls_then {p = p} {q = q} a b = record {
       let n = (b o.0).shrinks o.1 y j o.3 in
       omega arith;
 }
+
+-- what takes a token behind another parser
+pub falls_last : {A B : Type 0} {f g : Nexts} {p : Parser A} {r : Rule A} {q : A → Parser B} → Law f g p r → ((x : A) → Falls (q x)) → Falls (p >>= q)
+falls_last {p = p} {q = q} a b = record {
+  by = λ i y j h.
+      let o = both_ok (p i) q y j h in
+      let l = a.shrinks i o.0 o.1 o.2 in
+      let n = (b o.0).by o.1 y j o.3 in
+      omega arith;
+}
+
+pub falls_identifier : Falls identifier
+falls_identifier = record { by = λ i x j h. token_falls (kind.Id x.name) i x.at j (law_identifier.sound i x j h) }
+
+pub falls_number : Falls number
+falls_number = record { by = λ i x j h. token_falls (kind.Number x.value) i x.at j (law_number.sound i x j h) }
 
 falls_by : {A : Type 0} {p q : Parser A} → Falls p → Falls q → (i : Input) (x : A) (j : Input) (b : Bool) → (if b then p i else q i) ≡ read x j → length j.rest < length i.rest
 falls_by a c i x j true h = a.by i x j h

@@ -1,5 +1,5 @@
 -- The laws of expressions: the parser reads exactly what the grammar allows.
-use Rattle.std.proofs.Common.{◌≡◌, true, ℕ, zero, suc, List, [], ◌∷◌, Option, Some, None, refl}
+use Rattle.std.proofs.Common.{◌≡◌, true, ℕ, zero, suc, [], ◌∷◌, refl}
 use Rattle.mp_ast.specs.declared.tokens.TokenKind.TheVariants as kind
 use Rattle.mp_ast.specs.declared.words.WordSymbol.TheVariants as w
 use Rattle.mp_ast.specs.declared.symbols.Symbol.TheVariants as s
@@ -19,11 +19,11 @@ use Rattle.mp_cursor.specs.declared.next.Next.TheVariants.{Word, Symbol}
 use Rattle.mp_cursor.specs.Nexts.{Nexts, is, any, either, among, but}
 use Rattle.mp_cursor.specs.Parsers.{Parser, ◌>>=◌, ◌>>◌, ◌<$>◌, pure, expect}
 use Rattle.mp_cursor.proofs.NextSets.{apart, within_any, within_itself}
-use Rattle.mp_cursor.proofs.Laws.{Law, Same, law_pure, law_then, law_map, law_followed, law_begun, law_as, law_word, law_symbol, law_never, word_only, symbol_only}
-use Rattle.mp_cursor.proofs.SameRules.{same_refl, same_sym, same_trans, same_then, same_or, or_grouped, or_swapped, then_grouped, gives_first, factored, map_first}
+use Rattle.mp_cursor.proofs.Laws.{Law, law_pure, law_then, law_map, law_followed, law_begun, law_as, law_word, law_symbol, law_never, symbol_only}
+use Rattle.mp_cursor.proofs.SameRules.{same_refl, same_sym, same_trans, same_or, or_grouped, or_swapped, then_grouped, factored, map_first}
 use Rattle.mp_cursor.proofs.LeafLaws.{law_identifier, law_number, law_string, law_opening_word, law_opening_symbol}
 use Rattle.mp_cursor.proofs.ChoiceLaws.{law_branch, law_optional}
-use Rattle.mp_cursor.proofs.ListLaws.{Falls, falls_expect, falls_word, falls_symbol, falls_opening, falls_then, falls_map, falls_branch, law_many, law_many_from, law_many_lists, law_separated, law_further, falls_further}
+use Rattle.mp_cursor.proofs.ListLaws.{Falls, falls_word, falls_symbol, falls_opening, falls_then, falls_branch, law_many, law_many_from, law_many_lists, law_separated, law_further, falls_further}
 use Rattle.mp_cursor.proofs.ConstantLaws.{law_optional_sign}
 use Rattle.mp_parse_expr.specs.Operators.{written, relational, relational_operator, adding, adding_operator, multiplying, multiplying_operator}
 use Rattle.mp_parse_expr.specs.Expressions as p

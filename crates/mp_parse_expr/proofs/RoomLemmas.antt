@@ -1,5 +1,5 @@
 -- What stands behind one more opener, for the code that has just opened.
-use Rattle.std.proofs.Common.{◌≡◌, ℕ, zero, suc, ◌-◌, ◌<◌, refl, sym, ap, ◌∙◌, arith}
+use Rattle.std.proofs.Common.{◌≡◌, ℕ, zero, suc, ◌-◌, ◌<◌, refl, ap, ◌∙◌, arith}
 use Rattle.mp_parse_expr.specs.Expressions.{Deeper, behind, expression, factor}
 
 abbrev one_less : ℕ → Deeper

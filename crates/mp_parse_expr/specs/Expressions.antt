@@ -1,5 +1,5 @@
 -- Parsers of variables and expressions.
-use Rattle.std.specs.Prelude.{ℕ, zero, suc, List, [], ◌∷◌, Option, Some, None}
+use Rattle.std.specs.Prelude.{ℕ, zero, suc, List, [], ◌∷◌, Option}
 use Rattle.mp_ast.specs.declared.words.WordSymbol.TheVariants as w
 use Rattle.mp_ast.specs.declared.symbols.Symbol.TheVariants as s
 use Rattle.mp_ast.specs.declared.leaves.Identifier.{Identifier}
@@ -17,7 +17,7 @@ use Rattle.mp_ast.specs.ExpressionGrammar.{product, sum, relation}
 use Rattle.mp_cursor.specs.declared.next.Next.TheVariants as next
 use Rattle.mp_cursor.specs.declared.next.Next.TheVariants.{Word, Symbol}
 use Rattle.mp_cursor.specs.Nexts.{Nexts, is, among}
-use Rattle.mp_cursor.specs.Parsers.{Parser, ◌>>=◌, ◌>>◌, ◌<$>◌, pure, refuse, branch, expect, opening, identifier, number, character_string, repeated, and_one, and_all, separated, optional}
+use Rattle.mp_cursor.specs.Parsers.{Parser, ◌>>=◌, ◌>>◌, ◌<$>◌, pure, refuse, branch, expect, opening, identifier, number, character_string, repeated, and_one, and_all, optional}
 use Rattle.mp_cursor.specs.Leaves.{optional_sign}
 use Rattle.mp_parse_expr.specs.Operators.{relational, relational_operator, adding, adding_operator, multiplying, multiplying_operator}
 

@@ -9,4 +9,4 @@
 mod expressions;
 mod operators;
 
-pub use expressions::expression;
+pub use expressions::{access, access_behind, actuals, expression};

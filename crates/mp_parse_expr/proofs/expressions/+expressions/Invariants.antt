@@ -1,4 +1,4 @@
-use Rattle.std.proofs.Common.{◌≡◌, ◌+◌, ◌-◌, ◌*◌, []}
+use Rattle.std.proofs.Common.{◌≡◌, ◌+◌, ◌-◌, ◌*◌}
 use Rattle.mp_ast.specs.declared.symbols.Symbol.TheVariants as s
 use Rattle.mp_cursor.specs.declared.next.Next.TheVariants.{Symbol}
 use Rattle.mp_cursor.specs.Nexts.{is}

@@ -1,0 +1,4 @@
+pub mod DepthLemmas
+pub mod PartLaws
+pub mod DeclarationLaws
+pub mod ProgramLemmas

@@ -1,0 +1,69 @@
+-- The law of what stands behind an `if`: an `else` that comes is taken, so that none may follow where none was taken.
+use Rattle.std.proofs.Common.{◌≡◌, inl, inr, ◌≤◌, Bool, true, false, List, [], ◌∷◌, length, Option, Some, None, refl, sym, ap, ◌∙◌, arith}
+use Rattle.std.specs.Prelude.{◌≢◌, if◌then◌else◌}
+use Rattle.mp_ast.specs.declared.tokens.TokenKind.{TokenKind}
+use Rattle.mp_ast.specs.declared.tokens.TokenKind.TheVariants as kind
+use Rattle.mp_ast.specs.declared.words.WordSymbol.TheVariants as w
+use Rattle.mp_ast.specs.declared.statements.Statement.{Statement}
+use Rattle.mp_ast.specs.Rules.{Input, Rule}
+use Rattle.mp_ast.specs.Rules as rule
+use Rattle.mp_ast.specs.StatementGrammar as g
+use Rattle.mp_cursor.specs.declared.next.Next.TheVariants.{Word}
+use Rattle.mp_cursor.specs.Nexts.{Nexts, next_of, is, either}
+use Rattle.mp_cursor.specs.Parsers.{Parser, ◌>>◌, ◌<$>◌, next_token, expect}
+use Rattle.mp_cursor.proofs.NextLemmas.{is_same}
+use Rattle.mp_cursor.proofs.NextSets.{within_any, in_first, in_second}
+use Rattle.mp_cursor.proofs.Laws.{Law, read, read_is, law_then, law_map, law_word, word_only}
+use Rattle.mp_parse_stmt.specs.Statements as p
+
+abbrev NoElse : Input → Type 0
+NoElse i = (ks : List TokenKind) → i.rest ≢ kind.Word w.Else ∷ ks
+
+-- the next token tells whether there is one
+none_by : (kinds : List TokenKind) → ((ks : List TokenKind) → kinds ≢ kind.Word w.Else ∷ ks) → (b : Bool) → is (Word w.Else) (next_of kinds) ≡ b → b ≡ false
+none_by kinds h false e = refl
+none_by [] h true e = absurd (let n : ⊥ = cc in n)
+none_by (k ∷ ks) h true e = absurd (h ks (ap (λ m. m ∷ ks) ((word_only w.Else).only k (sym (is_same (Word w.Else) (next_of (k ∷ ks)) e)))))
+
+is_no_else : (i : Input) → NoElse i → is (Word w.Else) (next_token i) ≡ false
+unfolding next_token
+is_no_else i h = none_by i.rest h (is (Word w.Else) (next_of i.rest)) refl
+
+no_else : (i : Input) → is (Word w.Else) (next_token i) ≡ false → NoElse i
+unfolding next_token
+no_else i e = λ ks q. let t : is (Word w.Else) (next_of i.rest) ≡ true = ap (λ l. is (Word w.Else) (next_of l)) q in let f = sym e ∙ t in let n : ⊥ = cc in n
+
+module _ {begins : Nexts} {statement : Parser Statement} {r : Rule Statement} (follow : Nexts) (a : Law begins follow statement r) where
+  abbrev taken : Parser (Option Statement)
+  taken = Some <$> (expect (Word w.Else) >> statement)
+
+  law_taken : Law (is (Word w.Else)) follow taken (rule.◌<$>◌ Some (rule.◌>>◌ (rule.word w.Else) r))
+  law_taken = law_map Some (law_then (law_word w.Else) (within_any begins) (λ at. a))
+
+  allowed : (i : Input) (x : Option Statement) (j : Input) (b : Bool) → is (Word w.Else) (next_token i) ≡ b → (if b then taken i else read None i) ≡ read x j → g.else_part r i x j
+  allowed i x j true e h = inl (law_taken.sound i x j h)
+  allowed i x j false e h = inr (tt, i, (no_else i e, refl), read_is None x i j h)
+
+  is_read : (i : Input) (x : Option Statement) (j : Input) → g.else_part r i x j → follow (next_token j) ≡ true → p.else_part statement i ≡ read x j
+  unfolding p.else_part
+  is_read i x j (inl d) e = ap (λ b. if b then taken i else read None i) (law_taken.begins i x j d e) ∙ law_taken.complete i x j d e
+  is_read i x j (inr d) e =
+      ap (λ b. if b then taken i else read None i) (is_no_else i d.2.0)
+      ∙ ap (λ y. read y i) d.3.0 ∙ ap (λ m. read x m) (d.2.1 ∙ d.3.1)
+
+  begun : (i : Input) (x : Option Statement) (j : Input) → g.else_part r i x j → follow (next_token j) ≡ true → either (is (Word w.Else)) follow (next_token i) ≡ true
+  begun i x j (inl d) e = in_first (is (Word w.Else)) follow (next_token i) (law_taken.begins i x j d e)
+  begun i x j (inr d) e = in_second (is (Word w.Else)) follow (next_token i) (ap (λ m. follow (next_token m)) (d.2.1 ∙ d.3.1) ∙ e)
+
+  shrinks_by : (i : Input) (x : Option Statement) (j : Input) (b : Bool) → (if b then taken i else read None i) ≡ read x j → length j.rest ≤ length i.rest
+  shrinks_by i x j true h = law_taken.shrinks i x j h
+  shrinks_by i x j false h = let e = ap (λ m. length m.rest) (read_is None x i j h).1 in omega arith
+
+  pub law_else_part : Law (either (is (Word w.Else)) follow) follow (p.else_part statement) (g.else_part r)
+  unfolding p.else_part
+  law_else_part = record {
+    sound = λ i x j h. allowed i x j (is (Word w.Else) (next_token i)) refl h;
+    complete = is_read;
+    begins = begun;
+    shrinks = λ i x j h. shrinks_by i x j (is (Word w.Else) (next_token i)) h;
+  }

@@ -1,0 +1,4 @@
+pub mod RoomLemmas
+pub mod ElseLaws
+pub mod ChoiceOrder
+pub mod StatementLaws

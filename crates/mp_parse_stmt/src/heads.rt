@@ -1,0 +1,97 @@
+ghost use Rattle.std.specs.Prelude.{◌≡◌, [], ◌∷◌};
+ghost use Rattle.mp_cursor.specs.Parsers.{Reads};
+ghost use Rattle.mp_parse_expr.specs.Expressions as expressions;
+ghost use Rattle.mp_parse_stmt.specs.Statements as spec;
+
+use mp_ast::{Access, Direction, Expr, ForHead, Symbol, WordSymbol};
+use mp_cursor::{Cursor, Failure, Next};
+use mp_parse_expr::{access, expression};
+use sqlite_items::Items;
+use std::alloc::Global;
+
+// In these functions `room` is how many more openers may stand open.
+
+#[tactic(auto, unfolding(crate::specs::Statements::direction))]
+fn direction(tokens: &mut Cursor<'_>) -> Result<Direction, Failure>
+    ensures { Reads (spec.direction tokens.old) result tokens.new }
+{
+    if tokens.sees(Next::Word(WordSymbol::To)) {
+        tokens.expect(Next::Word(WordSymbol::To))?;
+        return Ok(Direction::To);
+    }
+    tokens.expect(Next::Word(WordSymbol::Downto))?;
+    Ok(Direction::Downto)
+}
+
+/// The control variable and the limits of a for statement (ISO 7185, 6.8.3.9).
+#[tactic(auto, unfolding(crate::specs::Statements::for_head))]
+pub(crate) fn for_head(
+    alloc: Global,
+    tokens: &mut Cursor<'_>,
+    room: usize,
+) -> Result<ForHead, Failure>
+    ensures { Reads (spec.for_head (expressions.expression room) tokens.old) result tokens.new }
+{
+    let variable = tokens.identifier()?;
+    let assign = tokens.expect(Next::Symbol(Symbol::Assign))?;
+    let first = expression(alloc, tokens, room)?;
+    let direction = direction(tokens)?;
+    let last = expression(alloc, tokens, room)?;
+    Ok(ForHead {
+        variable,
+        assign,
+        first,
+        direction,
+        last,
+    })
+}
+
+// One more record behind a comma.
+#[tactic(auto, unfolding(crate::specs::Statements::further_record))]
+fn further_record(
+    alloc: Global,
+    tokens: &mut Cursor<'_>,
+    room: usize,
+    mut found: Items<Access<Expr>>,
+) -> Result<Items<Access<Expr>>, Failure>
+    ensures { Reads (spec.further_record (expressions.access room) found tokens.old) result tokens.new }
+{
+    tokens.expect(Next::Symbol(Symbol::Comma))?;
+    let more = access(alloc, tokens, room)?;
+    found.push(more)?;
+    Ok(found)
+}
+
+#[tactic(auto, using(mp_cursor::proofs::LoopLemmas::loop_more, mp_cursor::proofs::LoopLemmas::loop_done), unfolding(mp_cursor::specs::Parsers::repeated))]
+fn further_records(
+    alloc: Global,
+    tokens: &mut Cursor<'_>,
+    room: usize,
+    first: Items<Access<Expr>>,
+) -> Result<Items<Access<Expr>>, Failure>
+    ensures { Reads (spec.further_records (expressions.access room) first tokens.old) result tokens.new }
+{
+    let mut found = first;
+    'records: for _turn in 0..tokens.left() {
+        if !tokens.sees(Next::Symbol(Symbol::Comma)) {
+            return Ok(found);
+        }
+        found = further_record(alloc, tokens, room, found)?;
+    }
+    Ok(found)
+}
+
+/// The records of a with statement (ISO 7185, 6.8.3.10).
+#[tactic(auto, unfolding(crate::specs::Statements::records))]
+pub(crate) fn records(
+    alloc: Global,
+    tokens: &mut Cursor<'_>,
+    room: usize,
+) -> Result<Items<Access<Expr>>, Failure>
+    ensures { Reads (spec.records (expressions.access room) tokens.old) result tokens.new }
+{
+    let first = access(alloc, tokens, room)?;
+    let mut found = Items::new(alloc);
+    found.push(first)?;
+    further_records(alloc, tokens, room, found)
+}

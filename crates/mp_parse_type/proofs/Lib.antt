@@ -1,0 +1,6 @@
+pub mod LoopLemmas
+pub mod RoomLemmas
+pub mod Groupings
+pub mod LastLaws
+pub mod TypeLaws
+pub mod HeadingLaws
