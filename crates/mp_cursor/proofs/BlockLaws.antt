@@ -7,6 +7,7 @@ use Rattle.mp_ast.specs.Rules as rule
 use Rattle.mp_cursor.specs.Nexts.{next_of}
 use Rattle.mp_cursor.specs.Nexts.{Nexts}
 use Rattle.mp_cursor.specs.Parsers.{Outcome, Parser, next_token, counted, deeper, with_own_ordinals, back_at, too_many}
+use Rattle.mp_cursor.proofs.Settled.{settles_counted, settles_deeper, settles_own_ordinals}
 use Rattle.mp_cursor.proofs.Laws.{Law, read, read_is}
 
 -- ---- declarations
@@ -26,16 +27,18 @@ law_counted most g = record {
       ap (λ b. if b then read tt (one_more i) else Err (too_many i)) (lt-ltb _ _ d.0) ∙ ap (λ m. read tt m) (sym d.1);
   begins = λ i x j d e. ap (λ m. g (next_of m.rest)) (sym d.1) ∙ e;
   shrinks = λ i x j h. let e = ap (λ m. length m.rest) (counted_by (nat_lt i.declared most) i x j h).1 in omega arith;
+  settles = settles_counted most;
 }
 
 -- ---- depth
 
 pub law_deeper : {A : Type 0} {f g : Nexts} {p : Parser A} {r : Rule A} (depth : ℕ) → Law f g p r → Law f g (deeper depth p) (rule.deeper depth r)
-law_deeper zero a = record {
+law_deeper {p = p} zero a = record {
   sound = λ i x j h. absurd (let n : ⊥ = cc in n);
   complete = λ i x j d e. absurd d;
   begins = λ i x j d e. absurd d;
   shrinks = λ i x j h. absurd (let n : ⊥ = cc in n);
+  settles = settles_deeper zero p a.settles;
 }
 law_deeper (suc depth) a = a
 
@@ -65,4 +68,5 @@ law_own_ordinals {g = g} {p = p} {r = r} a = record {
       ap (back_at i.at) (a.complete (afresh i) x d.0 d.1 (ap (λ m. g (next_of m.rest)) (sym d.2) ∙ e)) ∙ ap (λ m. read x m) (sym d.2);
   begins = λ i x j d e. a.begins (afresh i) x d.0 d.1 (ap (λ m. g (next_of m.rest)) (sym d.2) ∙ e);
   shrinks = λ i x j h. own_shrinks i.at (length i.rest) x j (p (afresh i)) (λ y m e. a.shrinks (afresh i) y m e) h;
+  settles = settles_own_ordinals p a.settles;
 }

@@ -8,6 +8,7 @@ use Rattle.mp_cursor.specs.Nexts.{Nexts}
 use Rattle.mp_cursor.specs.Parsers.{Parser, next_token, branch, optional}
 use Rattle.mp_cursor.proofs.NextSets.{within, apart, within_is, apart_is, in_first, in_second}
 use Rattle.mp_cursor.specs.Nexts.{either}
+use Rattle.mp_cursor.proofs.Settled.{settles_branch}
 use Rattle.mp_cursor.proofs.Laws.{Law, read, law_pure, law_map}
 
 abbrev Branched : {A : Type 0} → Rule A → Rule A → Parser A → Parser A → Input → A → Input → Bool → Type 0
@@ -37,6 +38,7 @@ module _ {A : Type 0} {f h g : Nexts} {p q : Parser A} {r s : Rule A} (test : Ne
     complete = chosen;
     begins = begun;
     shrinks = λ i x j e. branched_shrinks a c i x j (test (next_token i)) e;
+    settles = settles_branch p q test a.settles c.settles;
   }
 
 -- what may be left out before the tokens that may follow

@@ -15,6 +15,7 @@ use Rattle.mp_cursor.specs.declared.next.Next.TheVariants as next
 use Rattle.mp_cursor.specs.Nexts.{next_of, class_of, is}
 use Rattle.mp_cursor.specs.Nexts.{Nexts}
 use Rattle.mp_cursor.specs.Parsers.{Outcome, Parser, and_then, ◌>>=◌, ◌<$>◌, pure, refuse, next_token, behind, behind_of, expect, wrong, here}
+use Rattle.mp_cursor.proofs.Settled.{Settles, settles_pure, settles_then, settles_wrong, settles_expect, settles_here}
 use Rattle.mp_cursor.proofs.NextLemmas.{is_same, is_itself, only_word, only_symbol}
 use Rattle.mp_cursor.proofs.NextSets.{within, within_is}
 use Rattle.mp_cursor.specs.Nexts.{any}
@@ -28,6 +29,8 @@ pub record Law {A : Type 0} (first follow : Nexts) (p : Parser A) (r : Rule A) :
   pub complete : (i : Input) (x : A) (j : Input) → r i x j → follow (next_token j) ≡ true → p i ≡ read x j
   pub begins : (i : Input) (x : A) (j : Input) → r i x j → follow (next_token j) ≡ true → first (next_token i) ≡ true
   pub shrinks : (i : Input) (x : A) (j : Input) → p i ≡ read x j → length j.rest ≤ length i.rest
+  -- it looks at one token past those that it takes
+  pub settles : Settles p
 
 -- ---- outcomes
 
@@ -49,6 +52,7 @@ law_pure x g = record {
   complete = λ i y j h e. ap (λ z. read z i) h.0 ∙ ap (λ m. read y m) h.1;
   begins = λ i y j h e. ap (λ m. g (next_token m)) h.1 ∙ e;
   shrinks = λ i y j h. let e = ap (λ m. length m.rest) (read_is x y i j h).1 in omega arith;
+  settles = settles_pure x;
 }
 
 pub law_then : {A B : Type 0} {f g fq h : Nexts} {p : Parser A} {r : Rule A} {q : A → Parser B} {s : A → Rule B} → Law f g p r → within fq g ≡ true → ((x : A) → Law fq h (q x) (s x)) → Law f h (p >>= q) (r >>=ʳ s)
@@ -65,6 +69,7 @@ law_then {g = g} {fq = fq} {p = p} {q = q} a w b = record {
       let l = a.shrinks i o.0 o.1 o.2 in
       let n = (b o.0).shrinks o.1 y j o.3 in
       omega arith;
+  settles = settles_then p q a.settles (λ x. (b x).settles);
 }
 
 pub within_self : (g : Nexts) (n : Next) → g n ≡ true → g n ≡ true
@@ -84,6 +89,7 @@ law_map {f = f} {g = g} {p = p} b a = record {
       let l = a.shrinks i o.0 o.1 o.2 in
       let n = ap (λ m. length m.rest) (read_is (b o.0) y o.1 j o.3).1 in
       omega arith;
+  settles = settles_then p (λ x. pure (b x)) a.settles (λ x. settles_pure (b x));
 }
 
 -- where fewer tokens may follow, or more may come first
@@ -93,6 +99,7 @@ law_followed {g = g} h w a = record {
   complete = λ i x j d e. a.complete i x j d (within_is h g w (next_token j) e);
   begins = λ i x j d e. a.begins i x j d (within_is h g w (next_token j) e);
   shrinks = a.shrinks;
+  settles = a.settles;
 }
 
 pub law_begun : {A : Type 0} {f g : Nexts} {p : Parser A} {r : Rule A} (h : Nexts) → within f h ≡ true → Law f g p r → Law h g p r
@@ -101,6 +108,7 @@ law_begun {f = f} h w a = record {
   complete = a.complete;
   begins = λ i x j d e. within_is f h w (next_token i) (a.begins i x j d e);
   shrinks = a.shrinks;
+  settles = a.settles;
 }
 
 -- of a rule that allows the same
@@ -114,6 +122,7 @@ law_as e a = record {
   complete = λ i x j d h. a.complete i x j (e.back i x j d) h;
   begins = λ i x j d h. a.begins i x j (e.back i x j d) h;
   shrinks = a.shrinks;
+  settles = a.settles;
 }
 
 -- ---- tokens
@@ -162,6 +171,14 @@ picked : (b : Bool) (i : Input) (at : ℕ) (j : Input) → (if b then read i.at 
 picked true i at j h = (refl, h)
 picked false i at j h = absurd (let n : ⊥ = cc in n)
 
+end_by : (k : TokenKind) (b : Bool) → IsOnly k → is (class_of k) next.End ≡ b → b ≡ false
+end_by k true o e = absurd (o.some (sym (is_same (class_of k) next.End e)))
+end_by k false o e = refl
+
+-- the end is no such token
+pub not_end : (k : TokenKind) → IsOnly k → is (class_of k) next.End ≡ false
+not_end k o = end_by k (is (class_of k) next.End) o refl
+
 pub law_expect : (k : TokenKind) → IsOnly k → Law (is (class_of k)) any (expect (class_of k)) (token k)
 unfolding expect
 law_expect k o = record {
@@ -177,6 +194,7 @@ law_expect k o = record {
       let w = picked (is (class_of k) (next_token i)) i at j h in
       let l = token_falls k i at j (takes k o i at j (sym (is_same (class_of k) (next_token i) w.0)) w.1) in
       omega arith;
+  settles = settles_expect (class_of k) (not_end k o);
 }
 
 pub law_word : (v : WordSymbol) → Law (is (next.Word v)) any (expect (next.Word v)) (rule.word v)
@@ -191,6 +209,7 @@ law_here g = record {
   complete = λ i at j d e. ap (λ n. read n i) d.0 ∙ ap (λ m. read at m) d.1;
   begins = λ i at j d e. ap (λ m. g (next_token m)) d.1 ∙ e;
   shrinks = λ i at j h. let e = ap (λ m. length m.rest) (read_is i.at at i j h).1 in omega arith;
+  settles = settles_here;
 }
 
 -- what is never read
@@ -200,4 +219,5 @@ law_never f g = record {
   complete = λ i x j d e. absurd d;
   begins = λ i x j d e. absurd d;
   shrinks = λ i x j h. absurd (let n : ⊥ = cc in n);
+  settles = settles_wrong;
 }

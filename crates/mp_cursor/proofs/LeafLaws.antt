@@ -19,7 +19,8 @@ use Rattle.mp_cursor.specs.declared.next.Next.TheVariants as next
 use Rattle.mp_cursor.specs.Nexts.{next_of, class_of, is}
 use Rattle.mp_cursor.specs.Parsers.{next_token, expect, wrong, identifier, identifier_of, number, number_of, character_string, string_of, directive, directive_of, opening, open_where}
 use Rattle.mp_cursor.specs.Nexts.{any}
-use Rattle.mp_cursor.proofs.Laws.{Law, read, read_is, IsOnly, word_only, symbol_only, law_expect}
+use Rattle.mp_cursor.proofs.Settled.{settles_identifier, settles_number, settles_string, settles_directive, settles_opening}
+use Rattle.mp_cursor.proofs.Laws.{not_end, Law, read, read_is, IsOnly, word_only, symbol_only, law_expect}
 
 -- ---- leaves
 
@@ -79,6 +80,7 @@ law_identifier = record {
       ∙ ap (λ n. read x (input n i.declared j.rest)) (sym d.2) ∙ ap (λ n. read x (input j.at n j.rest)) (sym d.3);
   begins = λ i x j d e. ap (λ ks. is next.Identifier (next_of ks)) d.0;
   shrinks = λ i x j h. let e = ap (λ ks. length ks) (identifier_sound i.at i.declared i.rest x j h).0 in omega arith;
+  settles = settles_identifier;
 }
 
 pub law_number : Law (is next.Number) any number leaf.number
@@ -91,6 +93,7 @@ law_number = record {
       ∙ ap (λ n. read x (input n i.declared j.rest)) (sym d.2) ∙ ap (λ n. read x (input j.at n j.rest)) (sym d.3);
   begins = λ i x j d e. ap (λ ks. is next.Number (next_of ks)) d.0;
   shrinks = λ i x j h. let e = ap (λ ks. length ks) (number_sound i.at i.declared i.rest x j h).0 in omega arith;
+  settles = settles_number;
 }
 
 pub law_string : Law (is next.Text) any character_string leaf.character_string
@@ -103,6 +106,7 @@ law_string = record {
       ∙ ap (λ n. read x (input n i.declared j.rest)) (sym d.2) ∙ ap (λ n. read x (input j.at n j.rest)) (sym d.3);
   begins = λ i x j d e. ap (λ ks. is next.Text (next_of ks)) d.0;
   shrinks = λ i x j h. let e = ap (λ ks. length ks) (string_sound i.at i.declared i.rest x j h).0 in omega arith;
+  settles = settles_string;
 }
 
 -- ---- directives
@@ -135,6 +139,7 @@ law_directive spelling = record {
       ∙ ap (λ n. read x (input n i.declared j.rest)) (sym d.2) ∙ ap (λ n. read x (input j.at n j.rest)) (sym d.3);
   begins = λ i x j d e. ap (λ ks. is next.Identifier (next_of ks)) d.0;
   shrinks = λ i x j h. let e = ap (λ ks. length ks) (directive_sound spelling i.at i.declared i.rest x j h).0 in omega arith;
+  settles = settles_directive spelling;
 }
 
 -- ---- tokens that open
@@ -157,6 +162,7 @@ law_opening k o zero = record {
   complete = λ i at j d e. absurd d;
   begins = λ i at j d e. absurd d;
   shrinks = λ i at j h. absurd (never (is (class_of k) (next_token i)) i at j h);
+  settles = settles_opening zero (class_of k) (not_end k o);
 }
 law_opening k o (suc room) =
     let a = law_expect k o in
@@ -165,6 +171,7 @@ law_opening k o (suc room) =
       complete = λ i at j d e. opens_with_room room (class_of k) i ∙ a.complete i at j d e;
       begins = a.begins;
       shrinks = λ i at j h. a.shrinks i at j (sym (opens_with_room room (class_of k) i) ∙ h);
+      settles = settles_opening (suc room) (class_of k) (not_end k o);
     }
 
 pub law_opening_word : (room : ℕ) (v : WordSymbol) → Law (is (next.Word v)) any (opening room (next.Word v)) (rule.opener room (kind.Word v))

@@ -1,5 +1,6 @@
 pub mod NextLemmas
 pub mod NextSets
+pub mod Settled
 pub mod Laws
 pub mod SameRules
 pub mod LeafLaws

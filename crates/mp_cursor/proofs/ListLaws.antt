@@ -17,7 +17,8 @@ use Rattle.mp_cursor.proofs.LeafLaws.{law_opening, law_identifier, law_number}
 use Rattle.mp_cursor.proofs.NextSets.{within, apart, within_is, apart_is, either_by, in_first, in_second, within_any, within_itself, within_both}
 use Rattle.mp_cursor.specs.Nexts.{either}
 use Rattle.mp_cursor.proofs.SameRules.{same_value, same_itself}
-use Rattle.mp_cursor.proofs.Laws.{Law, read, read_is, both_ok, law_then, law_map, law_as, law_expect, IsOnly, word_only, symbol_only, token_falls}
+use Rattle.mp_cursor.proofs.Settled.{settles_repeated}
+use Rattle.mp_cursor.proofs.Laws.{not_end, Law, read, read_is, both_ok, law_then, law_map, law_as, law_expect, IsOnly, word_only, symbol_only, token_falls}
 
 -- a parser that takes a token at least
 pub record Falls {A : Type 0} (p : Parser A) : Type 0 where
@@ -86,7 +87,7 @@ abbrev pub all_added : {A B : Type 0} → (B → A → B) → B → List A → B
 all_added add found [] = found
 all_added add found (x ∷ xs) = all_added add (add found x) xs
 
-module _ {A B : Type 0} {first inner : Nexts} {p : Parser A} {r : Rule A} (add : B → A → B) (test follow : Nexts) (a : Law first inner p r) (falls : Falls p) (begins : within first test ≡ true) (stops : apart follow test ≡ true) (again : within first inner ≡ true) (last : within follow inner ≡ true) where
+module _ {A B : Type 0} {first inner : Nexts} {p : Parser A} {r : Rule A} (add : B → A → B) (test follow : Nexts) (a : Law first inner p r) (falls : Falls p) (begins : within first test ≡ true) (stops : apart follow test ≡ true) (again : within first inner ≡ true) (last : within follow inner ≡ true) (ends : test next.End ≡ false) where
   abbrev Added : B → Input → B → Input → Type 0
   Added found i y j = (xs : List A) × Many r j xs i × (all_added add found xs ≡ y)
 
@@ -147,6 +148,9 @@ module _ {A B : Type 0} {first inner : Nexts} {p : Parser A} {r : Rule A} (add :
       ∙ ap (λ u. and_then (and_then u (λ x. pure (add found x))) (loop test (adding add p) n)) o
       ∙ loop_complete n (add found x) j xs m ds (omega arith) e
 
+  turn_falls : (x : B) (i : Input) (y : B) (j : Input) → adding add p x i ≡ read y j → length j.rest < length i.rest
+  turn_falls x i y j h = (falls_map (λ z. add x z) falls).by i y j h
+
   -- a list, each item of which is added to what was found
   pub law_repeated : (found : B) → Law (either first follow) follow (repeated test (adding add p) found) ((λ xs. all_added add found xs) <$>ʳ many r)
   unfolding repeated left
@@ -157,6 +161,7 @@ module _ {A B : Type 0} {first inner : Nexts} {p : Parser A} {r : Rule A} (add :
         loop_complete (length i.rest) found d.1 d.0 i d.2 (omega arith) v ∙ ap (λ z. read z d.1) d.3.0 ∙ ap (λ m. read y m) d.3.1;
     begins = λ i y j d e. list_begins d.1 d.0 i d.2 (ap (λ m. follow (next_token m)) d.3.1 ∙ e);
     shrinks = λ i y j h. loop_shrinks (length i.rest) found i y j h;
+    settles = settles_repeated test (adding add p) ends turn_falls (λ x. (law_map (λ y. add x y) a).settles) found;
   }
 
 -- ---- items
@@ -175,16 +180,16 @@ pub lists_added : {A : Type 0} (found : List A) (lists : List (List A)) → all_
 lists_added found [] = sym (append-nil found)
 lists_added found (xs ∷ lists) = lists_added (found ++ xs) lists ∙ append_assoc found xs (joined lists)
 
-module _ {A : Type 0} {first inner : Nexts} {p : Parser A} {r : Rule A} (test follow : Nexts) (a : Law first inner p r) (falls : Falls p) (begins : within first test ≡ true) (stops : apart follow test ≡ true) (again : within first inner ≡ true) (last : within follow inner ≡ true) where
+module _ {A : Type 0} {first inner : Nexts} {p : Parser A} {r : Rule A} (test follow : Nexts) (a : Law first inner p r) (falls : Falls p) (begins : within first test ≡ true) (stops : apart follow test ≡ true) (again : within first inner ≡ true) (last : within follow inner ≡ true) (ends : test next.End ≡ false) where
   pub law_many_from : (found : List A) → Law (either first follow) follow (repeated test (and_one p) found) ((λ xs. found ++ xs) <$>ʳ many r)
-  law_many_from found = law_as (same_value _ _ (ones_added found)) (law_repeated one_at_the_end test follow a falls begins stops again last found)
+  law_many_from found = law_as (same_value _ _ (ones_added found)) (law_repeated one_at_the_end test follow a falls begins stops again last ends found)
 
   pub law_many : Law (either first follow) follow (repeated test (and_one p) []) (many r)
   law_many = law_as same_itself (law_many_from [])
 
-module _ {A : Type 0} {first inner : Nexts} {p : Parser (List A)} {r : Rule (List A)} (test follow : Nexts) (a : Law first inner p r) (falls : Falls p) (begins : within first test ≡ true) (stops : apart follow test ≡ true) (again : within first inner ≡ true) (last : within follow inner ≡ true) where
+module _ {A : Type 0} {first inner : Nexts} {p : Parser (List A)} {r : Rule (List A)} (test follow : Nexts) (a : Law first inner p r) (falls : Falls p) (begins : within first test ≡ true) (stops : apart follow test ≡ true) (again : within first inner ≡ true) (last : within follow inner ≡ true) (ends : test next.End ≡ false) where
   pub law_many_lists : Law (either first follow) follow (repeated test (and_all p) []) (many_lists r)
-  law_many_lists = law_as (same_value _ _ (lists_added [])) (law_repeated all_at_the_end test follow a falls begins stops again last [])
+  law_many_lists = law_as (same_value _ _ (lists_added [])) (law_repeated all_at_the_end test follow a falls begins stops again last ends [])
 
 -- ---- separators
 
@@ -199,4 +204,4 @@ module _ {A : Type 0} {first inner : Nexts} {p : Parser A} {r : Rule A} (k : Tok
 module _ {A : Type 0} {first inner : Nexts} {p : Parser A} {r : Rule A} (k : TokenKind) (o : IsOnly k) (follow : Nexts) (a : Law first inner p r) (stops : apart follow (is (class_of k)) ≡ true) (again : within (is (class_of k)) inner ≡ true) (last : within follow inner ≡ true) where
   pub law_separated : Law first follow (separated (class_of k) p) (rule.separated (token k) r)
   law_separated = law_then a (within_both (is (class_of k)) follow inner again last) (λ x.
-      law_many_from (is (class_of k)) follow (law_further k o a) (falls_further k o a) (within_itself (is (class_of k))) stops again last (x ∷ []))
+      law_many_from (is (class_of k)) follow (law_further k o a) (falls_further k o a) (within_itself (is (class_of k))) stops again last (not_end k o) (x ∷ []))

@@ -1,5 +1,5 @@
 -- The law of lists whose items have separators between them, and that may end with one more.
-use Rattle.std.proofs.Common.{◌≡◌, inl, inr, ℕ, zero, suc, ◌≤◌, Bool, true, false, List, [], ◌∷◌, ◌++◌, length, Option, Some, None, refl, sym, ap, ◌∙◌, subst, append_assoc, arith}
+use Rattle.std.proofs.Common.{◌≡◌, inl, inr, ℕ, zero, suc, ◌<◌, ◌≤◌, Bool, true, false, List, [], ◌∷◌, ◌++◌, length, Option, Some, None, refl, sym, ap, ◌∙◌, subst, append_assoc, arith}
 use Rattle.std.proofs.lemmas.List.{append-nil}
 use Rattle.std.specs.Prelude.{if◌then◌else◌}
 use Rattle.mp_ast.specs.declared.tokens.TokenKind.{TokenKind}
@@ -12,7 +12,8 @@ use Rattle.mp_cursor.specs.Parsers.{Parser, and_then, ◌>>=◌, ◌>>◌, pure,
 use Rattle.mp_cursor.specs.Nexts.{is, class_of}
 use Rattle.mp_cursor.proofs.NextSets.{within, apart, within_is, apart_is, in_first, in_second, within_both}
 use Rattle.mp_cursor.specs.Nexts.{either}
-use Rattle.mp_cursor.proofs.Laws.{Law, Same, read, read_is, both_ok, law_then, law_as, law_expect, IsOnly, token_falls}
+use Rattle.mp_cursor.proofs.Settled.{settles_series}
+use Rattle.mp_cursor.proofs.Laws.{not_end, law_map, Law, Same, read, read_is, both_ok, law_then, law_as, law_expect, IsOnly, token_falls}
 
 module _ {A : Type 0} {first inner : Nexts} {p : Parser A} {r : Rule A} (k : TokenKind) (o : IsOnly k) (test follow : Nexts) (a : Law first inner p r) (begins : within first test ≡ true) (stops : apart follow (is (class_of k)) ≡ true) (ends : apart follow test ≡ true) (again : within (is (class_of k)) inner ≡ true) (last : within follow inner ≡ true) where
   abbrev n : Next
@@ -138,6 +139,12 @@ module _ {A : Type 0} {first inner : Nexts} {p : Parser A} {r : Rule A} (k : Tok
       ∙ series_complete at l j c e count (found ++ x ∷ []) xs m ds (omega arith)
       ∙ ap (λ z. read z j) (append_assoc found (x ∷ []) xs)
 
+  expect_falls : (i : Input) (at : ℕ) (j : Input) → expect n i ≡ read at j → length j.rest < length i.rest
+  expect_falls i at j h = token_falls k i at j ((law_expect k o).sound i at j h)
+
+  one_shrinks : (x : List A) (i : Input) (y : List A) (j : Input) → and_one p x i ≡ read y j → length j.rest ≤ length i.rest
+  one_shrinks x i y j h = (law_map (λ z. x ++ z ∷ []) a).shrinks i y j h
+
   law_tail : (found : List A) → Law (either (is n) follow) follow (repeated_series n test (and_one p) found) ((λ xs. found ++ xs) <$>ʳ tail)
   unfolding repeated_series left
   law_tail found = record {
@@ -152,6 +159,7 @@ module _ {A : Type 0} {first inner : Nexts} {p : Parser A} {r : Rule A} (k : Tok
         let v = ap (λ m. follow (next_token m)) (t.3.3.1 ∙ d.3.1) ∙ e in
         tail_begins t.1 j (last_of t.1 t.3.0 t.3.1 t.3.2 v) t.0 i t.2;
     shrinks = λ i ys j h. series_shrinks (length i.rest) found i ys j h;
+    settles = settles_series n test (and_one p) (not_end k o) expect_falls one_shrinks (λ x. (law_map (λ y. x ++ y ∷ []) a).settles) found;
   }
 
   regrouped : Same (r >>=ʳ (λ x. (λ xs. (x ∷ []) ++ xs) <$>ʳ tail)) (rule.separated (token k) r >>=ʳ (λ xs. optional (token k) >>ʳ gives xs))

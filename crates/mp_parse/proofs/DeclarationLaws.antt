@@ -178,7 +178,7 @@ module _ {q : Parser Tree} {r : Rule Tree} (block : Law block_begins any q r) wh
     unfolding p.declarations p.further_declaration
     law_declarations depth =
         law_as (declarations_same depth)
-        (law_repeated p.with_one_more p.declaring (is (Word w.Begin)) (law_deeper depth law_declaration) (falls_deeper depth falls_declaration) refl refl (within_any heading_begins) (within_any (is (Word w.Begin))) ([], []))
+        (law_repeated p.with_one_more p.declaring (is (Word w.Begin)) (law_deeper depth law_declaration) (falls_deeper depth falls_declaration) refl refl (within_any heading_begins) (within_any (is (Word w.Begin))) refl ([], []))
 
     -- ---- blocks
 

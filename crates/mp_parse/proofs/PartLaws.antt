@@ -39,7 +39,7 @@ law_part test follow a inside outside = law_branch test a inside outside (law_pu
 -- one after another, at least one, each beginning with a name
 module _ {A : Type 0} {q : Parser A} {r : Rule A} (follow : Nexts) (a : Law (is next.Identifier) any q r) (falls : Falls q) (stops : apart follow (is next.Identifier) ≡ true) where
   pub law_some : Law (is next.Identifier) follow (q >>= (λ first. repeated (is next.Identifier) (and_one q) (first ∷ []))) (g.some r)
-  law_some = law_then a (within_any (either (is next.Identifier) follow)) (λ first. law_many_from (is next.Identifier) follow a falls refl stops (within_any (is next.Identifier)) (within_any follow) (first ∷ []))
+  law_some = law_then a (within_any (either (is next.Identifier) follow)) (λ first. law_many_from (is next.Identifier) follow a falls refl stops (within_any (is next.Identifier)) (within_any follow) refl (first ∷ []))
 
 -- ---- what follows each part
 

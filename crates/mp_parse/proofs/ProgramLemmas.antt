@@ -35,7 +35,7 @@ by_failure (Wrong n) h = absurd (h (λ q. let m : ⊥ = cc in m))
 by_failure (TooDeep n) h = absurd (h (λ q. let m : ⊥ = cc in m))
 by_failure (TooMany n) h = absurd (h (λ q. let m : ⊥ = cc in m))
 
-abbrev stopped : Failure → Outcome Tree
+abbrev pub stopped : Failure → Outcome Tree
 stopped e = Err e
 
 not_both : (o : Outcome Tree) (e : Failure) (t : Tree) (j : Input) → o ≡ stopped e → o ≡ read t j → ⊥

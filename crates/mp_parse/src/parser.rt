@@ -1,7 +1,8 @@
-ghost use Rattle.std.specs.Prelude.{◌≡◌, ◌≤◌, length, IfOk, MatchResult};
+ghost use Rattle.std.specs.Prelude.{◌≡◌, ◌≤◌, length, IfErr, IfOk, MatchResult};
 ghost use Rattle.mp_ast.specs.declared.blocks.Tree.{Tree as SyntaxTree};
 ghost use Rattle.mp_ast.specs.Programs.{Derives, kinds_of, standard};
-ghost use Rattle.mp_cursor.specs.declared.failure.Failure.TheVariants as cause;
+ghost use Rattle.mp_parse.specs.Errors as spec;
+ghost use Rattle.mp_parse.specs.Errors.{IsNotEarly};
 ghost use Rattle.mp_parse.specs.declared.errors.ParseError.TheVariants as error;
 
 use crate::blocks::program;
@@ -14,7 +15,7 @@ use std::alloc::Global;
 // The error of a failure in a text of so many tokens.
 fn error_of(failure: Failure, count: usize) -> ParseError
     requires { count ≤ TEXT_LIMIT }
-    ensures { failure ≡ cause.Memory → result ≡ error.Memory }
+    ensures { result ≡ spec.error_of failure count }
 {
     let (left, code) = match failure {
         Failure::Memory => return ParseError::Memory,
@@ -31,10 +32,12 @@ fn error_of(failure: Failure, count: usize) -> ParseError
 
 /// The tree of the program that the tokens are (ISO 7185, 6.2 to 6.10), by their kinds alone.
 ///
-/// Where they are no program, the error names a token and a code. Which ones is not promised yet.
+/// Where they are no program, the error names a token with which no program begins, by its index; the number of tokens
+/// stands for the end. That it is the first such token, and its code, is not promised yet.
 pub fn parse(alloc: Global, lexed: &Lexed) -> Result<Tree, ParseError>
     requires { length lexed.now.tokens ≤ TEXT_LIMIT }
     ensures tree { IfOk result (λ t. Derives standard (kinds_of lexed.now.tokens) t) }
+    ensures error { IfErr result (λ e. IsNotEarly (kinds_of lexed.now.tokens) e) }
     ensures only { (t : SyntaxTree) → Derives standard (kinds_of lexed.now.tokens) t → MatchResult result (λ found. found ≡ t) (λ e. e ≡ error.Memory) }
 {
     let tokens = lexed.tokens.get();

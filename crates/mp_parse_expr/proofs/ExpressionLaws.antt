@@ -135,7 +135,7 @@ module _ (room : ℕ) (d : p.Deeper) (r : g.Deeper) (behind : BehindLaws d r) wh
   indices_behind at =
       law_then behind.expression refl (λ first.
       law_as (map_first _ _ _)
-      (law_then (law_many_from (is (Symbol s.Comma)) (is (Symbol s.RightBracket)) law_index falls_index refl refl refl refl (selector.Index at first ∷ [])) refl (λ all.
+      (law_then (law_many_from (is (Symbol s.Comma)) (is (Symbol s.RightBracket)) law_index falls_index refl refl refl refl refl (selector.Index at first ∷ [])) refl (λ all.
       law_then (law_symbol s.RightBracket) refl (λ z. law_pure all any))))
 
   law_index_list : Law (is (Symbol s.LeftBracket)) any (p.index_list room d) (g.index_list room r)
@@ -171,7 +171,7 @@ module _ (room : ℕ) (d : p.Deeper) (r : g.Deeper) (behind : BehindLaws d r) wh
   -- before any tokens that do not go on with it
   law_selections : (follow : Nexts) → apart follow p.selecting ≡ true → Law (either p.selecting follow) follow (p.selections room d) (rule.many_lists (rule.◌<|>◌ (g.index_list room r) (rule.◌<|>◌ (g.field_selection room r) (g.pointer_selection room r))))
   unfolding p.further_selection
-  law_selections follow e = law_many_lists p.selecting follow law_selection falls_selection refl e refl (within_any follow)
+  law_selections follow e = law_many_lists p.selecting follow law_selection falls_selection refl e refl (within_any follow) refl
 
   -- behind a name
   abbrev pub access_behind_rule : Identifier → Rule (Access Expr)
@@ -204,7 +204,7 @@ module _ (room : ℕ) (d : p.Deeper) (r : g.Deeper) (behind : BehindLaws d r) wh
   actuals_behind at =
       law_as (same_sym (then_grouped _ _ _))
       (law_then law_actual refl (λ first.
-      law_then (law_many_from (is (Symbol s.Comma)) (is (Symbol s.RightParen)) (law_further (kind.Symbol s.Comma) (symbol_only s.Comma) law_actual) (falls_further (kind.Symbol s.Comma) (symbol_only s.Comma) law_actual) refl refl refl refl (first ∷ [])) refl (λ found.
+      law_then (law_many_from (is (Symbol s.Comma)) (is (Symbol s.RightParen)) (law_further (kind.Symbol s.Comma) (symbol_only s.Comma) law_actual) (falls_further (kind.Symbol s.Comma) (symbol_only s.Comma) law_actual) refl refl refl refl refl (first ∷ [])) refl (λ found.
       law_then (law_symbol s.RightParen) refl (λ z. law_pure found any))))
 
   pub law_actuals_with : Law (is (Symbol s.LeftParen)) any (p.actuals_with room d) (g.actuals_with room r)
@@ -282,7 +282,7 @@ module _ (room : ℕ) (d : p.Deeper) (r : g.Deeper) (behind : BehindLaws d r) wh
 
   law_further_factors : Law (either multiplying after_term) after_term (p.further_factors room d) (rule.many (g.operation g.multiplying_operator (g.factor_with room r)))
   unfolding p.further_factor
-  law_further_factors = law_many multiplying after_term (law_operation law_multiplying falls_multiplying law_factor_with) (falls_operation law_multiplying falls_multiplying law_factor_with) refl refl refl refl
+  law_further_factors = law_many multiplying after_term (law_operation law_multiplying falls_multiplying law_factor_with) (falls_operation law_multiplying falls_multiplying law_factor_with) refl refl refl refl refl
 
   law_term : Law factor_begins after_term (p.term room d) (g.term room r)
   unfolding p.term
@@ -290,7 +290,7 @@ module _ (room : ℕ) (d : p.Deeper) (r : g.Deeper) (behind : BehindLaws d r) wh
 
   law_further_terms : Law (either adding after_simple) after_simple (p.further_terms room d) (rule.many (g.operation g.adding_operator (g.term room r)))
   unfolding p.further_term
-  law_further_terms = law_many adding after_simple (law_operation law_adding falls_adding law_term) (falls_operation law_adding falls_adding law_term) refl refl refl refl
+  law_further_terms = law_many adding after_simple (law_operation law_adding falls_adding law_term) (falls_operation law_adding falls_adding law_term) refl refl refl refl refl
 
   law_simple : Law expression_begins after_simple (p.simple_expression room d) (g.simple_expression room r)
   unfolding p.simple_expression

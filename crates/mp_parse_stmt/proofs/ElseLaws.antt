@@ -10,9 +10,10 @@ use Rattle.mp_ast.specs.Rules as rule
 use Rattle.mp_ast.specs.StatementGrammar as g
 use Rattle.mp_cursor.specs.declared.next.Next.TheVariants.{Word}
 use Rattle.mp_cursor.specs.Nexts.{Nexts, next_of, is, either}
-use Rattle.mp_cursor.specs.Parsers.{Parser, ◌>>◌, ◌<$>◌, next_token, expect}
+use Rattle.mp_cursor.specs.Parsers.{Parser, ◌>>◌, ◌<$>◌, pure, next_token, expect}
 use Rattle.mp_cursor.proofs.NextLemmas.{is_same}
 use Rattle.mp_cursor.proofs.NextSets.{within_any, in_first, in_second}
+use Rattle.mp_cursor.proofs.Settled.{settles_branch, settles_pure}
 use Rattle.mp_cursor.proofs.Laws.{Law, read, read_is, law_then, law_map, law_word, word_only}
 use Rattle.mp_parse_stmt.specs.Statements as p
 
@@ -66,4 +67,5 @@ module _ {begins : Nexts} {statement : Parser Statement} {r : Rule Statement} (f
     complete = is_read;
     begins = begun;
     shrinks = λ i x j h. shrinks_by i x j (is (Word w.Else) (next_token i)) h;
+    settles = settles_branch taken (pure None) (is (Word w.Else)) law_taken.settles (settles_pure None);
   }

@@ -6,6 +6,7 @@ use Rattle.mp_ast.specs.Rules.{◌>>=◌ as ◌>>=ʳ◌, ◌>>◌ as ◌>>ʳ◌,
 use Rattle.mp_cursor.specs.Nexts.{Nexts, either}
 use Rattle.mp_cursor.specs.Parsers.{Parser, next_token, branch}
 use Rattle.mp_cursor.proofs.NextSets.{within, within_is, in_first, in_second}
+use Rattle.mp_cursor.proofs.Settled.{settles_branch}
 use Rattle.mp_cursor.proofs.Laws.{Law, Same, read}
 use Rattle.mp_cursor.proofs.SameRules.{same_refl, same_sym, same_trans, same_then, same_or, or_grouped, or_swapped, then_grouped, gives_first}
 
@@ -56,6 +57,7 @@ module _ {A : Type 0} {f h g : Nexts} {p q : Parser A} {r s t : Rule A} (test : 
     complete = λ i x j d e. chosen i x j (splits.to i x j d) e;
     begins = λ i x j d e. begun i x j (splits.to i x j d) e;
     shrinks = λ i x j e. chosen_shrinks i x j (test (next_token i)) e;
+    settles = settles_branch p q test a.settles c.settles;
   }
 
 -- ---- parsers that take a token at least

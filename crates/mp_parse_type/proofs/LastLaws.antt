@@ -1,6 +1,6 @@
 -- The law of lists whose items have separators between them, and that end, behind one more separator, with something
 -- else.
-use Rattle.std.proofs.Common.{◌≡◌, inl, inr, ℕ, zero, suc, ◌≤◌, Bool, true, false, List, [], ◌∷◌, ◌++◌, length, refl, sym, ap, ◌∙◌, subst, append_assoc, arith}
+use Rattle.std.proofs.Common.{◌≡◌, inl, inr, ℕ, zero, suc, ◌<◌, ◌≤◌, Bool, true, false, List, [], ◌∷◌, ◌++◌, length, refl, sym, ap, ◌∙◌, subst, append_assoc, arith}
 use Rattle.std.proofs.lemmas.List.{append-nil}
 use Rattle.std.specs.Prelude.{if◌then◌else◌}
 use Rattle.mp_ast.specs.declared.tokens.TokenKind.{TokenKind}
@@ -10,7 +10,8 @@ use Rattle.mp_cursor.specs.declared.next.Next.{Next}
 use Rattle.mp_cursor.specs.Nexts.{Nexts, is, class_of, either}
 use Rattle.mp_cursor.specs.Parsers.{Parser, and_then, ◌>>=◌, ◌>>◌, ◌<$>◌, pure, next_token, branch, and_one, expect, left}
 use Rattle.mp_cursor.proofs.NextSets.{within, apart, within_is, apart_is, in_first, in_second, within_both}
-use Rattle.mp_cursor.proofs.Laws.{Law, read, read_is, both_ok, law_map, law_expect, IsOnly, token_falls}
+use Rattle.mp_parse_type.proofs.SettledLast.{settles_with_last}
+use Rattle.mp_cursor.proofs.Laws.{not_end, Law, read, read_is, both_ok, law_map, law_expect, IsOnly, token_falls}
 use Rattle.mp_parse_type.specs.Types.{series_and_last, repeated_and_last}
 
 module _ {A B C : Type 0} {first inner begin : Nexts} {p : Parser A} {r : Rule A} {q : Parser C} {t : Rule C} (k : TokenKind) (o : IsOnly k) (test follow : Nexts) (add : List A → C → B) (nothing : C) (a : Law first inner p r) (c : Law begin follow q t) (begins : within first test ≡ true) (stops : apart follow (is (class_of k)) ≡ true) (ends : apart begin test ≡ true) (again : within (is (class_of k)) inner ≡ true) (last : within follow inner ≡ true) where
@@ -128,6 +129,12 @@ module _ {A B C : Type 0} {first inner begin : Nexts} {p : Parser A} {r : Rule A
       ∙ list_complete e l j s v count (found ++ x ∷ []) xs m ds (omega arith)
       ∙ ap (λ z. read (add z e) j) (append_assoc found (x ∷ []) xs)
 
+  separator_falls : (i : Input) (at : ℕ) (j : Input) → expect n i ≡ read at j → length j.rest < length i.rest
+  separator_falls i at j h = token_falls k i at j ((law_expect k o).sound i at j h)
+
+  item_shrinks : (x : List A) (i : Input) (y : List A) (j : Input) → and_one p x i ≡ read y j → length j.rest ≤ length i.rest
+  item_shrinks x i y j h = (law_map (λ z. x ++ z ∷ []) a).shrinks i y j h
+
   pub law_with_last : (found : List A) → Law (either (is n) follow) follow (repeated_and_last n test (and_one p) with_last whole found) (many (token k >>ʳ r) >>=ʳ (λ xs. ending >>=ʳ (λ e. gives (add (found ++ xs) e))))
   unfolding repeated_and_last left
   law_with_last found = record {
@@ -141,4 +148,5 @@ module _ {A B C : Type 0} {first inner begin : Nexts} {p : Parser A} {r : Rule A
         let v = ap (λ m. follow (next_token m)) t.3.1 ∙ e in
         list_begins d.1 (ending_begins d.1 t.0 t.1 t.2 v) d.0 i d.2;
     shrinks = λ i y j h. list_shrinks (length i.rest) found i y j h;
+    settles = settles_with_last n test (and_one p) with_last whole (not_end k o) separator_falls item_shrinks (λ x. (law_map (λ y. x ++ y ∷ []) a).settles) (λ x. (law_map (add x) c).settles) found;
   }

@@ -150,7 +150,7 @@ law_index_types at =
     law_then law_simple_type refl (λ of.
     law_many_from (is (Symbol s.Comma)) (is (Symbol s.RightBracket))
     (law_then (law_symbol s.Comma) refl (λ at. law_map (an_index at) law_simple_type))
-    (falls_then (falls_expect (kind.Symbol s.Comma) (symbol_only s.Comma)) (λ at. law_map (an_index at) law_simple_type)) refl refl refl refl (an_index at of ∷ []))
+    (falls_then (falls_expect (kind.Symbol s.Comma) (symbol_only s.Comma)) (λ at. law_map (an_index at) law_simple_type)) refl refl refl refl refl (an_index at of ∷ []))
 
 module _ {q : Parser Denoter} {r : Rule Denoter} (denoter : Law denoter_begins after_denoter q r) where
   -- names of one type

@@ -1,15 +1,35 @@
-use Rattle.std.proofs.Common.{arith}
-use Rattle.mp_ast.specs.Programs.{standard}
+use Rattle.std.proofs.Common.{length, sym, ap, ◌∙◌, subst, arith}
+use Rattle.mp_ast.specs.Programs.{kinds_of, standard}
 use Rattle.mp_cursor.specs.Parsers.{left}
+use Rattle.mp_parse.specs.Errors.{IsNotEarly, NoneBegins, error_of}
 use Rattle.mp_parse.proofs.ProgramLemmas.{only_memory, no_rest, same_tree, is_derived}
+use Rattle.mp_parse.proofs.ErrorLemmas.{error_clause, rest_is_not_early, same_count}
 use Rattle.mp_parse.proofs.parser.parse.Goals as goal
 
 pub returns-in-Err-clause-only : goal.returns-in-Err-clause-only
-returns-in-Err-clause-only c = λ t d. c.error_of.ensures (only_memory standard _ _ t (λ n. rw (← c.get-tokens.ensures, ← c.new-cursor.ensures) (c.in-Err.ensures n)) d)
+returns-in-Err-clause-only c = λ t d. c.error_of.ensures ∙ ap (λ e. error_of e (length c.get-tokens.result.now)) (only_memory standard _ _ t (λ n. rw (← c.get-tokens.ensures, ← c.new-cursor.ensures) (c.in-Err.ensures n)) d)
+
+pub returns-in-Err-clause-error : goal.returns-in-Err-clause-error
+returns-in-Err-clause-error c =
+    let tokens = c.args.lexed.now.tokens in
+    let count = same_count tokens ∙ ap (λ t. length t) (sym c.get-tokens.ensures) in
+    let stop = error_clause (kinds_of tokens) c.in-Err.failure (λ n. rw (← c.get-tokens.ensures, ← c.new-cursor.ensures) (c.in-Err.ensures n)) in
+    subst (λ e. IsNotEarly (kinds_of tokens) e) (sym c.error_of.ensures) (subst (λ n. IsNotEarly (kinds_of tokens) (error_of c.in-Err.failure n)) count stop)
 
 pub returns-then-left-gt0-clause-only : goal.returns-then-left-gt0-clause-only
 unfolding left
 returns-then-left-gt0-clause-only c = λ t d. absurd (no_rest standard _ c.in-Ok.found t c.program.new.tokens (rw (← c.get-tokens.ensures, ← c.new-cursor.ensures) c.in-Ok.ensures) (let l = c.left-left.ensures in let h = c.if-left-gt0.true in omega arith) d)
+
+pub returns-then-left-gt0-clause-error : goal.returns-then-left-gt0-clause-error
+unfolding left
+returns-then-left-gt0-clause-error c =
+    let tokens = c.args.lexed.now.tokens in
+    let count = same_count tokens ∙ ap (λ t. length t) (sym c.get-tokens.ensures) in
+    let l = c.left-left.ensures in
+    let h = c.if-left-gt0.true in
+    let s = c.saturating_sub-token.ensures in
+    subst (λ n. NoneBegins (kinds_of tokens) n) (omega arith)
+    (rest_is_not_early (kinds_of tokens) c.in-Ok.found c.program.new.tokens (rw (← c.get-tokens.ensures, ← c.new-cursor.ensures) c.in-Ok.ensures) (omega arith))
 
 pub returns-clause-tree : goal.returns-clause-tree
 unfolding left

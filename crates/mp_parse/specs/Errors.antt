@@ -1,0 +1,26 @@
+-- The errors of lists of tokens that are no program.
+use Rattle.std.specs.Prelude.{ℕ, zero, suc, ◌+◌, ◌-◌, ◌≤◌, ◌<◌, List, length, take}
+use Rattle.mp_ast.specs.declared.tokens.TokenKind.{TokenKind}
+use Rattle.mp_ast.specs.Programs.{IsViable, standard}
+use Rattle.mp_cursor.specs.declared.failure.Failure.{Failure}
+use Rattle.mp_cursor.specs.declared.failure.Failure.TheVariants as failure
+use Rattle.mp_parse.specs.declared.errors.ParseError.{ParseError}
+use Rattle.mp_parse.specs.declared.errors.ParseError.TheVariants as error
+
+-- the error of a failure in a list of so many tokens
+abbrev pub error_of : Failure → ℕ → ParseError
+error_of failure.Memory count = error.Memory
+error_of (failure.Wrong zero) count = error.Syntax count 202
+error_of (failure.Wrong (suc left)) count = error.Syntax (count - suc left) 201
+error_of (failure.TooDeep left) count = error.Syntax (count - left) 203
+error_of (failure.TooMany left) count = error.Syntax (count - left) 204
+
+-- No program begins with the tokens up to the one with this index and with it. The number of tokens stands for the end.
+pub record NoneBegins (kinds : List TokenKind) (index : ℕ) : Type 0 where
+  pub within : index ≤ length kinds
+  pub none : index < length kinds → IsViable standard (take (index + 1) kinds) → ⊥
+
+-- an error does not come before the first token with which no program begins
+abbrev pub IsNotEarly : List TokenKind → ParseError → Type 0
+IsNotEarly kinds error.Memory = Unit {0}
+IsNotEarly kinds (error.Syntax token code) = NoneBegins kinds token
