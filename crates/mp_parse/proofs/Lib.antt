@@ -2,3 +2,8 @@ pub mod DepthLemmas
 pub mod PartLaws
 pub mod DeclarationLaws
 pub mod ProgramLemmas
+pub mod Moves
+pub mod MovesExpressions
+pub mod MovesStatements
+pub mod MovesTypes
+pub mod MovesHeadings
