@@ -7,3 +7,4 @@ pub mod MovesExpressions
 pub mod MovesStatements
 pub mod MovesTypes
 pub mod MovesHeadings
+pub mod MovesBlocks

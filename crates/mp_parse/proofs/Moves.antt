@@ -1,7 +1,7 @@
 -- Rules do not look around: what a rule reads at one place it reads wherever the same tokens stand, however many
 -- declarations were made before them, and whatever follows. Only an `if` without an `else` heeds what follows it: that
 -- is never an `else`. One lemma for each way in which rules are put together; the productions follow.
-use Rattle.std.proofs.Common.{◌≡◌, ◌≢◌, ℕ, zero, suc, ◌+◌, ◌-◌, ◌<◌, ◌≤◌, ◌⊎◌, inl, inr, Bool, true, false, List, [], ◌∷◌, ◌++◌, Option, refl, sym, ap, ◌∙◌, subst, arith, append_assoc}
+use Rattle.std.proofs.Common.{◌≡◌, ◌≢◌, ℕ, zero, suc, ◌+◌, ◌-◌, ◌≤◌, ◌⊎◌, inl, inr, Bool, true, false, List, [], ◌∷◌, ◌++◌, refl, sym, ap, ◌∙◌, subst, arith, append_assoc}
 use Rattle.mp_ast.specs.declared.tokens.TokenKind.{TokenKind}
 use Rattle.mp_ast.specs.declared.tokens.TokenKind.TheVariants.{Word}
 use Rattle.mp_ast.specs.declared.words.WordSymbol.TheVariants as w

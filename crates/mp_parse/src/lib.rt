@@ -13,5 +13,5 @@ mod parser;
 mod parts;
 
 pub use errors::ParseError;
-pub use laws::one_tree;
+pub use laws::{blocks_do_not_look_around, one_tree};
 pub use parser::parse;
