@@ -1,6 +1,6 @@
 -- The rules of expressions do not look around.
 use Rattle.std.proofs.Common.{Bool, ℕ, zero, suc}
-use Rattle.mp_ast.specs.ExpressionGrammar.{Deeper, behind, relational_operator, adding_operator, multiplying_operator, access_with, actuals_with, factor_with, term, simple_expression, expression_with, expression, access, actuals}
+use Rattle.mp_ast.specs.ExpressionGrammar.{Deeper, behind, relational_operator, adding_operator, multiplying_operator, index_list, access_with, actual, actuals_with, member, set_constructor, factor_with, term, simple_expression, expression_with, expression, access, actuals}
 use Rattle.mp_parse.proofs.Moves.{Moves, nothing, never, next, made, either, maybe, repeated, repeated_lists, one, row, opens, identifier_moves, number_moves, string_moves, sign_moves}
 
 record DeeperMoves (heeds : Bool) (most : ℕ) (b : Deeper) : Type 0 where
@@ -20,22 +20,27 @@ module _ {heeds : Bool} {most : ℕ} where
   multiplying = either (next one (λ at. nothing)) (either (next one (λ at. nothing)) (either (next one (λ at. nothing)) (next one (λ at. nothing))))
 
   module _ (room : ℕ) (b : Deeper) (c : DeeperMoves heeds most b) where
+    index_list_moves : Moves heeds most (index_list room b)
+    index_list_moves =
+        next (opens room _) (λ at. next c.expression (λ first. next (repeated (next one (λ comma. made c.expression))) (λ more. next one (λ end. nothing))))
+
     access_moves_with : Moves heeds most (access_with room b)
     access_moves_with =
         next identifier_moves (λ name. next
-        (repeated_lists
-        (either
-        (next (opens room _) (λ at. next c.expression (λ first. next (repeated (next one (λ comma. made c.expression))) (λ more. next one (λ end. nothing)))))
-        (either
-        (next one (λ at. next identifier_moves (λ field. nothing)))
-        (next one (λ at. nothing)))))
+        (repeated_lists (either index_list_moves (either (next one (λ at. next identifier_moves (λ field. nothing))) (next one (λ at. nothing)))))
         (λ selectors. nothing))
 
+    actual_moves : Moves heeds most (actual room b)
+    actual_moves = next c.expression (λ value. next (maybe (next one (λ colon. next c.expression (λ width. nothing)))) (λ width. nothing))
+
     actuals_moves_with : Moves heeds most (actuals_with room b)
-    actuals_moves_with =
-        next (opens room _) (λ at. next
-        (row one (next c.expression (λ value. next (maybe (next one (λ colon. next c.expression (λ width. nothing)))) (λ width. nothing))))
-        (λ found. next one (λ end. nothing)))
+    actuals_moves_with = next (opens room _) (λ at. next (row one actual_moves) (λ found. next one (λ end. nothing)))
+
+    member_moves : Moves heeds most (member room b)
+    member_moves = next c.expression (λ first. next (maybe (next one (λ dots. c.expression))) (λ last. nothing))
+
+    set_moves : Moves heeds most (set_constructor room b)
+    set_moves = next (opens room _) (λ at. next (either (row one member_moves) nothing) (λ members. next one (λ end. nothing)))
 
     factor_moves_with : Moves heeds most (factor_with room b)
     factor_moves_with =
@@ -46,9 +51,7 @@ module _ {heeds : Bool} {most : ℕ} where
         (either (next identifier_moves (λ name. made actuals_moves_with))
         (either (next (opens room _) (λ at. next c.expression (λ x. next one (λ end. nothing))))
         (either (next (opens room _) (λ at. made c.factor))
-        (next (opens room _) (λ at. next
-        (either (row one (next c.expression (λ first. next (maybe (next one (λ dots. c.expression))) (λ last. nothing)))) nothing)
-        (λ members. next one (λ end. nothing))))))))))
+        set_moves))))))
 
     term_moves : Moves heeds most (term room b)
     term_moves = next factor_moves_with (λ first. next (repeated (next multiplying (λ o. next factor_moves_with (λ x. nothing)))) (λ more. nothing))

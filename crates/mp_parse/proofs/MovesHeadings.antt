@@ -1,18 +1,23 @@
 -- The rules of headings do not look around.
-use Rattle.std.proofs.Common.{Bool, ℕ, zero, suc}
-use Rattle.mp_ast.specs.HeadingGrammar.{formals_behind, formals, heading}
+use Rattle.std.proofs.Common.{Bool, ℕ, zero, suc, List}
+use Rattle.mp_ast.specs.declared.headings.FormalSection.{FormalSection}
+use Rattle.mp_ast.specs.Rules.{Rule}
+use Rattle.mp_ast.specs.HeadingGrammar.{result_type, formal, formals_behind, formals, heading}
 use Rattle.mp_parse.proofs.Moves.{Moves, nothing, never, next, made, either, maybe, one, row, opens, identifier_moves}
 
 module _ {heeds : Bool} {most : ℕ} where
-  formals_moves_with : (room : ℕ) → Moves heeds most (formals_behind room) → Moves heeds most (formals room)
-  formals_moves_with room c =
-      next (opens room _) (λ at. next
-      (row one
-      (either (next (row one identifier_moves) (λ names. made (next one (λ colon. identifier_moves))))
-      (either (next one (λ at. next (row one identifier_moves) (λ names. made (next one (λ colon. identifier_moves)))))
+  result_moves : Moves heeds most result_type
+  result_moves = next one (λ colon. identifier_moves)
+
+  formal_moves : {r : Rule (List FormalSection)} → Moves heeds most r → Moves heeds most (formal r)
+  formal_moves c =
+      either (next (row one identifier_moves) (λ names. made result_moves))
+      (either (next one (λ at. next (row one identifier_moves) (λ names. made result_moves)))
       (either (next one (λ at. next identifier_moves (λ name. next (either c nothing) (λ own. nothing))))
-      (next one (λ at. next identifier_moves (λ name. next (either c nothing) (λ own. made (next one (λ colon. identifier_moves))))))))))
-      (λ sections. next one (λ end. nothing)))
+      (next one (λ at. next identifier_moves (λ name. next (either c nothing) (λ own. made result_moves))))))
+
+  formals_moves_with : (room : ℕ) → Moves heeds most (formals_behind room) → Moves heeds most (formals room)
+  formals_moves_with room c = next (opens room _) (λ at. next (row one (formal_moves c)) (λ sections. next one (λ end. nothing)))
 
   behind_moves : (room : ℕ) → Moves heeds most (formals_behind room)
   unfolding formals_behind
@@ -27,4 +32,4 @@ module _ {heeds : Bool} {most : ℕ} where
       either
       (next one (λ at. next identifier_moves (λ name. next (either (formals_moves room) nothing) (λ sections. nothing))))
       (next one (λ at. next identifier_moves (λ name. next (either (formals_moves room) nothing) (λ sections.
-      next (maybe (next one (λ colon. identifier_moves))) (λ result. nothing)))))
+      next (maybe result_moves) (λ result. nothing)))))
