@@ -8,6 +8,7 @@ use Rattle.mp_ast.specs.declared.words.WordSymbol.TheVariants as w
 use Rattle.mp_ast.specs.Rules.{Input, Rule, ◌>>=◌, ◌<$>◌, ◌<|>◌, gives, none, optional, Many, no_more, one_more, many, many_lists, separated, token, here, not_before, opener, deeper, one_more_declaration, with_own_ordinals}
 use Rattle.mp_ast.specs.LeafGrammar.{identifier, number, character_string, sign, constant}
 
+-- the next token is no `else`
 abbrev pub NoElse : List TokenKind → Type 0
 NoElse kinds = (more : List TokenKind) → kinds ≢ Word w.Else ∷ more
 
@@ -30,6 +31,7 @@ pub record Reads {A : Type 0} (heeds : Bool) (most : ℕ) (r : Rule A) (i : Inpu
   pub declared : i.declared ≤ j.declared
   pub elsewhere : (k l : Input) → Moved kinds i j k l → l.declared ≤ most → Alike heeds j.rest l.rest → r k x l
 
+-- a rule that does not look around, but for an `else` behind it where it heeds that
 pub record Moves {A : Type 0} (heeds : Bool) (most : ℕ) (r : Rule A) : Type 0 where
   pub moves : (i : Input) (x : A) (j : Input) → r i x j → Reads heeds most r i x j
 
@@ -48,13 +50,17 @@ stays i j k l e m =
     let d = ap (λ n. n.declared) e in
     same_input k l (m.first ∙ a ∙ sym m.last) (omega (arith, d, m.declared)) m.tokens
 
-still : {A : Type 0} {heeds : Bool} {most : ℕ} {r : Rule A} (i : Input) (x : A) (j : Input) → i ≡ j → ((k l : Input) → Moved [] i j k l → Alike heeds j.rest l.rest → r k x l) → Reads heeds most r i x j
+-- of a rule that reads nothing
+still :
+    {A : Type 0} {heeds : Bool} {most : ℕ} {r : Rule A} (i : Input) (x : A) (j : Input) → i ≡ j →
+    ((k l : Input) → Moved [] i j k l → Alike heeds j.rest l.rest → r k x l) → Reads heeds most r i x j
 still i x j e f =
     let d = ap (λ n. n.declared) e in
     record { kinds = []; tokens = ap (λ n. n.rest) e; declared = omega (arith, d); elsewhere = λ k l m b a. f k l m a }
 
 -- ---- a place between two others
 
+-- between `k` and `l`, where `m` is between `i` and `j`, and these tokens stand behind `m`
 between : Input → Input → List TokenKind → Input → Input → Input
 between i m kinds k l = record { at = m.at; declared = k.declared + (m.declared - i.declared); rest = kinds ++ l.rest }
 
@@ -68,7 +74,8 @@ unfolding between
 from_between i m j k l before behind d n =
     record { first = refl; last = n.last; declared = omega (arith, d, n.declared); tokens = refl }
 
-few_between : (most : ℕ) (i m j k l : Input) (kinds behind : List TokenKind) → i.declared ≤ m.declared → m.declared ≤ j.declared → Moved kinds i j k l → l.declared ≤ most → (between i m behind k l).declared ≤ most
+few_between :
+    (most : ℕ) (i m j k l : Input) (kinds behind : List TokenKind) → i.declared ≤ m.declared → m.declared ≤ j.declared → Moved kinds i j k l → l.declared ≤ most → (between i m behind k l).declared ≤ most
 unfolding between
 few_between most i m j k l kinds behind d e n few = omega (arith, d, e, n.declared, few)
 
@@ -192,7 +199,8 @@ module _ {heeds : Bool} {most : ℕ} where
 
   -- wherever the ordinals of the block around stand
   pub own_elsewhere :
-      {A : Type 0} {r : Rule A} {i : Input} {x : A} {m : Input} (p : Reads heeds most r i x m) (k l : Input) → i.at ≡ 0 → k.at ≡ l.at → l.declared + i.declared ≡ k.declared + m.declared → k.rest ≡ p.kinds ++ l.rest →
+      {A : Type 0} {r : Rule A} {i : Input} {x : A} {m : Input} (p : Reads heeds most r i x m) (k l : Input) →
+      i.at ≡ 0 → k.at ≡ l.at → l.declared + i.declared ≡ k.declared + m.declared → k.rest ≡ p.kinds ++ l.rest →
       l.declared ≤ most → Alike heeds m.rest l.rest → with_own_ordinals r k x l
   own_elsewhere {m = m} p k l zeroth same declared tokens few a = (
     record l { at = m.at },
@@ -234,14 +242,18 @@ module _ {heeds : Bool} {most : ℕ} where
   pub constant_moves : Moves heeds most constant
   constant_moves = either (next (maybe sign_moves) (λ s. either (made number_moves) (made identifier_moves))) (made string_moves)
 
--- ---- what ends in a token heeds nothing
+-- ---- what a token follows, heeds nothing behind that
 
--- at a token, what stands behind it is not heeded
-alike_at : {most : ℕ} {B : Type 0} {s : Rule B} {kind : TokenKind} {at : ℕ} (m n : Input) {y : B} (j : Input) (t : token kind m at n) (q : Reads false most s n y j) (others : List TokenKind) → Alike true m.rest (kind ∷ q.kinds ++ others)
+-- what heeds the next token finds the same one again
+alike_at :
+    {most : ℕ} {B : Type 0} {s : Rule B} {kind : TokenKind} {at : ℕ} (m n : Input) {y : B} (j : Input) →
+    (t : token kind m at n) (q : Reads false most s n y j) (others : List TokenKind) → Alike true m.rest (kind ∷ q.kinds ++ others)
 alike_at {kind = kind} m n j t q others = subst (λ kinds. NoElse kinds → NoElse (kind ∷ q.kinds ++ others)) (sym t.0) (alike_first kind n.rest (q.kinds ++ others))
 
 -- a token and what stands behind it
-abbrev token_then : {most : ℕ} {B : Type 0} {s : ℕ → Rule B} {kind : TokenKind} (at : ℕ) (m n : Input) (y : B) (j : Input) → token kind m at n → Reads false most (s at) n y j → Reads false most (token kind >>= s) m y j
+abbrev token_then :
+    {most : ℕ} {B : Type 0} {s : ℕ → Rule B} {kind : TokenKind} (at : ℕ) (m n : Input) (y : B) (j : Input) →
+    token kind m at n → Reads false most (s at) n y j → Reads false most (token kind >>= s) m y j
 token_then {kind = kind} at m n y j t q = record {
   kinds = kind ∷ q.kinds;
   tokens = t.0 ∙ ap (λ kinds. kind ∷ kinds) q.tokens;
@@ -255,7 +267,9 @@ token_then {kind = kind} at m n y j t q = record {
       );
 }
 
-pub closed : {most : ℕ} {A B : Type 0} {r : Rule A} {kind : TokenKind} {s : A → ℕ → Rule B} → Moves true most r → ((x : A) (at : ℕ) → Moves false most (s x at)) → Moves false most (r >>= (λ x. token kind >>= s x))
+pub closed :
+    {most : ℕ} {A B : Type 0} {r : Rule A} {kind : TokenKind} {s : A → ℕ → Rule B} →
+    Moves true most r → ((x : A) (at : ℕ) → Moves false most (s x at)) → Moves false most (r >>= (λ x. token kind >>= s x))
 closed {kind = kind} {s = s} a b = record {
   moves = λ i y j h.
       let m = h.1 in
