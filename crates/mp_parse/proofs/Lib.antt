@@ -3,3 +3,9 @@ pub mod PartLaws
 pub mod DeclarationLaws
 pub mod ProgramLemmas
 pub mod ErrorLemmas
+pub mod Moves
+pub mod MovesExpressions
+pub mod MovesStatements
+pub mod MovesTypes
+pub mod MovesHeadings
+pub mod MovesBlocks

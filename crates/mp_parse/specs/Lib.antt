@@ -1,2 +1,3 @@
 pub mod Blocks
 pub mod Errors
+pub mod Locality

@@ -1,9 +1,10 @@
 //! The parser: the tree of exactly the programs.
 //!
-//! The crate reads blocks and programs (ISO 7185, 6.2 and 6.10) from the tokens of a text, in time linear in the
-//! tokens. It promises that `parse` answers a tree exactly where the tokens have one by the grammar of `mp_ast`, and
-//! that one, and that no list of tokens has two. It must never look at names but for `forward`, nor judge what a program
-//! means. It stands on `mp_parse_stmt` and `mp_parse_type`.
+//! The crate reads blocks and programs (ISO 7185, 6.2 and 6.10) from the tokens of a text. It promises that `parse`
+//! answers a tree exactly where the tokens have one by the grammar of `mp_ast`, and that one; that its error names a
+//! token with which no program begins; and of the definitions, that no list of tokens has two trees, and that a nested
+//! block is read by its own tokens alone. It must never look at names but for `forward`, nor judge what a program
+//! means. It stands on `mp_parse_stmt`, `mp_parse_type` and the crates below them.
 #![tactic(auto)]
 
 mod blocks;
@@ -13,5 +14,5 @@ mod parser;
 mod parts;
 
 pub use errors::ParseError;
-pub use laws::one_tree;
+pub use laws::{blocks_do_not_look_around, one_tree};
 pub use parser::parse;
