@@ -1,7 +1,7 @@
 use crate::headings::heading;
 use crate::leaves::{constant, identifier, identifiers, number};
 use crate::statements::statements;
-use crate::types::{denoter, sections};
+use crate::types::{denoter, section};
 use crate::written::{Outcome, Written};
 use mp_ast::{Block, Declaration, DeclaredBody, StatementPart, Tree};
 
@@ -53,7 +53,9 @@ fn variables(out: &mut Written, x: &Block) -> Outcome {
         return Ok(());
     }
     out.open_word("var")?;
-    sections(out, x.variables.as_slice())?;
+    for x in x.variables.as_slice() {
+        section(out, x)?;
+    }
     out.close()
 }
 

@@ -29,14 +29,6 @@ fn operation(out: &mut Written, x: &Operation<Expr>) -> Outcome {
 }
 
 #[cycle(expressions)]
-fn operations(out: &mut Written, list: &[Operation<Expr>]) -> Outcome {
-    for x in list {
-        operation(out, x)?;
-    }
-    Ok(())
-}
-
-#[cycle(expressions)]
 fn selector(out: &mut Written, x: &Selector<Expr>) -> Outcome {
     match x {
         Selector::Index(at, index) => {
@@ -54,19 +46,6 @@ fn selector(out: &mut Written, x: &Selector<Expr>) -> Outcome {
 }
 
 #[cycle(expressions)]
-pub fn access(out: &mut Written, x: &Access<Expr>) -> Outcome {
-    if x.selectors.is_empty() {
-        return identifier(out, &x.name);
-    }
-    out.open()?;
-    identifier(out, &x.name)?;
-    for x in x.selectors.as_slice() {
-        selector(out, x)?;
-    }
-    out.close()
-}
-
-#[cycle(expressions)]
 fn actual(out: &mut Written, x: &Actual<Expr>) -> Outcome {
     match &x.width {
         None => expression(out, &x.value),
@@ -77,16 +56,6 @@ fn actual(out: &mut Written, x: &Actual<Expr>) -> Outcome {
             out.close()
         }
     }
-}
-
-#[cycle(expressions)]
-pub fn call(out: &mut Written, name: &Identifier, given: &[Actual<Expr>]) -> Outcome {
-    out.open_word("call")?;
-    identifier(out, name)?;
-    for x in given {
-        actual(out, x)?;
-    }
-    out.close()
 }
 
 #[cycle(expressions)]
@@ -102,14 +71,30 @@ fn member(out: &mut Written, x: &Member<Expr>) -> Outcome {
     }
 }
 
+// Each loop over parts of an expression stands where the expression is taken apart, so that it is seen to end.
 #[cycle(expressions)]
 pub fn expression(out: &mut Written, x: &Expr) -> Outcome {
     match x {
         Expr::Number(value) => return number(out, value),
         Expr::Text(characters) => return character_string(out, characters),
         Expr::Nil(at) => return out.token("nil", *at),
-        Expr::Access(variable) => return access(out, variable),
-        Expr::Call(name, given) => return call(out, name, given.as_slice()),
+        Expr::Access(variable) => {
+            if variable.selectors.is_empty() {
+                return identifier(out, &variable.name);
+            }
+            out.open()?;
+            identifier(out, &variable.name)?;
+            for x in variable.selectors.as_slice() {
+                selector(out, x)?;
+            }
+        }
+        Expr::Call(name, given) => {
+            out.open_word("call")?;
+            identifier(out, name)?;
+            for x in given.as_slice() {
+                actual(out, x)?;
+            }
+        }
         Expr::Inside(at, inside) => {
             out.open_token("inside", *at)?;
             expression(out, inside.get())?;
@@ -127,19 +112,46 @@ pub fn expression(out: &mut Written, x: &Expr) -> Outcome {
         Expr::Product(first, more) => {
             out.open_word("product")?;
             expression(out, first.get())?;
-            operations(out, more.as_slice())?;
+            for x in more.as_slice() {
+                operation(out, x)?;
+            }
         }
         Expr::Sum(some, first, more) => {
             out.open_word("sum")?;
             sign(out, some)?;
             expression(out, first.get())?;
-            operations(out, more.as_slice())?;
+            for x in more.as_slice() {
+                operation(out, x)?;
+            }
         }
         Expr::Relation(left, right) => {
             out.open_word("relation")?;
             expression(out, left.get())?;
             operation(out, right.get())?;
         }
+    }
+    out.close()
+}
+
+/// `a@4`, or `(a@4 s s ..)`
+pub fn access(out: &mut Written, x: &Access<Expr>) -> Outcome {
+    if x.selectors.is_empty() {
+        return identifier(out, &x.name);
+    }
+    out.open()?;
+    identifier(out, &x.name)?;
+    for x in x.selectors.as_slice() {
+        selector(out, x)?;
+    }
+    out.close()
+}
+
+/// `(call a@4 x x ..)`
+pub fn call(out: &mut Written, name: &Identifier, given: &[Actual<Expr>]) -> Outcome {
+    out.open_word("call")?;
+    identifier(out, name)?;
+    for x in given {
+        actual(out, x)?;
     }
     out.close()
 }

@@ -21,3 +21,6 @@ fn main(rt: HostRuntime) -> io::Result<()> {
     };
     io::writer(&rt).write_all(out.bytes())
 }
+
+#[cfg(test)]
+mod tests;

@@ -9,8 +9,9 @@ fn packed(out: &mut Written, is_packed: bool) -> Outcome {
     Ok(())
 }
 
+/// `(a@3 b@5 : T)`
 #[cycle(types)]
-fn section(out: &mut Written, x: &Section<Denoter>) -> Outcome {
+pub fn section(out: &mut Written, x: &Section<Denoter>) -> Outcome {
     out.open()?;
     identifiers(out, x.names.as_slice())?;
     out.word(":")?;
@@ -33,45 +34,42 @@ fn variant(out: &mut Written, x: &Variant<Denoter>) -> Outcome {
     out.close()
 }
 
-#[cycle(types)]
-fn variants(out: &mut Written, list: &[Variant<Denoter>]) -> Outcome {
-    for x in list {
-        variant(out, x)?;
-    }
-    Ok(())
-}
-
-#[cycle(types)]
-fn variant_part(out: &mut Written, x: &VariantPart<Denoter>) -> Outcome {
-    out.open_token("case", x.at)?;
+// What stands before the variants of a variant part.
+fn selector(out: &mut Written, x: &VariantPart<Denoter>) -> Outcome {
     if let Some(tag) = &x.tag {
         identifier(out, tag)?;
         out.word(":")?;
     }
-    identifier(out, &x.of)?;
-    variants(out, x.variants.as_slice())?;
-    out.close()
+    identifier(out, &x.of)
 }
 
-/// `(a@3 b@5 : T)` of each
+// The sections and the variant part of a field list.
 #[cycle(types)]
-pub fn sections(out: &mut Written, list: &[Section<Denoter>]) -> Outcome {
-    for x in list {
+fn fields(out: &mut Written, x: &Denoter) -> Outcome {
+    let Denoter::Fields(fixed, part) = x else {
+        return Ok(());
+    };
+    for x in fixed.as_slice() {
         section(out, x)?;
     }
-    Ok(())
+    let Some(part) = part else {
+        return Ok(());
+    };
+    out.open_token("case", part.at)?;
+    selector(out, part)?;
+    for x in part.variants.as_slice() {
+        variant(out, x)?;
+    }
+    out.close()
 }
 
 #[cycle(types)]
 pub fn denoter(out: &mut Written, x: &Denoter) -> Outcome {
     match x {
         Denoter::Named(name) => return identifier(out, name),
-        Denoter::Fields(fixed, part) => {
+        Denoter::Fields(..) => {
             out.open_word("fields")?;
-            sections(out, fixed.as_slice())?;
-            if let Some(part) = part {
-                variant_part(out, part)?;
-            }
+            fields(out, x)?;
         }
         Denoter::Enumeration(at, names) => {
             out.open_token("enum", *at)?;
