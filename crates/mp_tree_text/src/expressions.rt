@@ -71,6 +71,35 @@ fn member(out: &mut Written, x: &Member<Expr>) -> Outcome {
     }
 }
 
+// An expression with operators between operands.
+#[cycle(expressions)]
+fn with_operators(out: &mut Written, x: &Expr) -> Outcome {
+    match x {
+        Expr::Product(first, more) => {
+            out.open_word("product")?;
+            expression(out, first.get())?;
+            for x in more.as_slice() {
+                operation(out, x)?;
+            }
+        }
+        Expr::Sum(some, first, more) => {
+            out.open_word("sum")?;
+            sign(out, some)?;
+            expression(out, first.get())?;
+            for x in more.as_slice() {
+                operation(out, x)?;
+            }
+        }
+        Expr::Relation(left, right) => {
+            out.open_word("relation")?;
+            expression(out, left.get())?;
+            operation(out, right.get())?;
+        }
+        _ => return Ok(()),
+    }
+    out.close()
+}
+
 // Each loop over parts of an expression stands where the expression is taken apart, so that it is seen to end.
 #[cycle(expressions)]
 pub fn expression(out: &mut Written, x: &Expr) -> Outcome {
@@ -109,29 +138,12 @@ pub fn expression(out: &mut Written, x: &Expr) -> Outcome {
                 member(out, x)?;
             }
         }
-        Expr::Product(first, more) => {
-            out.open_word("product")?;
-            expression(out, first.get())?;
-            for x in more.as_slice() {
-                operation(out, x)?;
-            }
-        }
-        Expr::Sum(some, first, more) => {
-            out.open_word("sum")?;
-            sign(out, some)?;
-            expression(out, first.get())?;
-            for x in more.as_slice() {
-                operation(out, x)?;
-            }
-        }
-        Expr::Relation(left, right) => {
-            out.open_word("relation")?;
-            expression(out, left.get())?;
-            operation(out, right.get())?;
-        }
+        Expr::Product(..) | Expr::Sum(..) | Expr::Relation(..) => return with_operators(out, x),
     }
     out.close()
 }
+
+// ---- parts of statements
 
 /// `a@4`, or `(a@4 s s ..)`
 pub fn access(out: &mut Written, x: &Access<Expr>) -> Outcome {

@@ -48,6 +48,53 @@ fn records(out: &mut Written, list: &[Access<Expr>]) -> Outcome {
     out.close()
 }
 
+// An `if` or a `case` statement.
+#[cycle(statements)]
+fn conditional(out: &mut Written, x: &Statement) -> Outcome {
+    match x {
+        Statement::If(at, condition, first, second) => {
+            out.open_token("if", *at)?;
+            expression(out, condition)?;
+            statement(out, first.get())?;
+            else_part(out, second)?;
+        }
+        Statement::Case(at, index, arms) => {
+            out.open_token("case", *at)?;
+            expression(out, index)?;
+            for x in arms.as_slice() {
+                arm(out, x)?;
+            }
+        }
+        _ => return Ok(()),
+    }
+    out.close()
+}
+
+// A `while`, a `repeat` or a `for` statement.
+#[cycle(statements)]
+fn repetitive(out: &mut Written, x: &Statement) -> Outcome {
+    match x {
+        Statement::While(at, condition, body) => {
+            out.open_token("while", *at)?;
+            expression(out, condition)?;
+            statement(out, body.get())?;
+        }
+        Statement::Repeat(at, list, condition) => {
+            out.open_token("repeat", *at)?;
+            statements(out, list.as_slice())?;
+            out.word("until")?;
+            expression(out, condition)?;
+        }
+        Statement::For(at, head, body) => {
+            out.open_token("for", *at)?;
+            for_head(out, head)?;
+            statement(out, body.get())?;
+        }
+        _ => return Ok(()),
+    }
+    out.close()
+}
+
 #[cycle(statements)]
 pub fn statement(out: &mut Written, x: &Statement) -> Outcome {
     match x {
@@ -71,35 +118,10 @@ pub fn statement(out: &mut Written, x: &Statement) -> Outcome {
             out.open_token("begin", *at)?;
             statements(out, list.as_slice())?;
         }
-        Statement::If(at, condition, first, second) => {
-            out.open_token("if", *at)?;
-            expression(out, condition)?;
-            statement(out, first.get())?;
-            else_part(out, second)?;
-        }
-        Statement::Case(at, index, arms) => {
-            out.open_token("case", *at)?;
-            expression(out, index)?;
-            for x in arms.as_slice() {
-                arm(out, x)?;
-            }
-        }
-        Statement::While(at, condition, body) => {
-            out.open_token("while", *at)?;
-            expression(out, condition)?;
-            statement(out, body.get())?;
-        }
-        Statement::Repeat(at, list, condition) => {
-            out.open_token("repeat", *at)?;
-            statements(out, list.as_slice())?;
-            out.word("until")?;
-            expression(out, condition)?;
-        }
-        Statement::For(at, head, body) => {
-            out.open_token("for", *at)?;
-            for_head(out, head)?;
-            statement(out, body.get())?;
-        }
+        Statement::If(..) | Statement::Case(..) => return conditional(out, x),
+        Statement::While(..) | Statement::Repeat(..) | Statement::For(..) => return repetitive(
+            out, x,
+        ),
         Statement::With(at, list, body) => {
             out.open_token("with", *at)?;
             records(out, list.as_slice())?;

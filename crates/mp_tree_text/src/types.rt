@@ -63,27 +63,10 @@ fn fields(out: &mut Written, x: &Denoter) -> Outcome {
     out.close()
 }
 
+// A structured type.
 #[cycle(types)]
-pub fn denoter(out: &mut Written, x: &Denoter) -> Outcome {
+fn structure(out: &mut Written, x: &Denoter) -> Outcome {
     match x {
-        Denoter::Named(name) => return identifier(out, name),
-        Denoter::Fields(..) => {
-            out.open_word("fields")?;
-            fields(out, x)?;
-        }
-        Denoter::Enumeration(at, names) => {
-            out.open_token("enum", *at)?;
-            identifiers(out, names.as_slice())?;
-        }
-        Denoter::Subrange(first, last) => {
-            out.open_word("..")?;
-            constant(out, first)?;
-            constant(out, last)?;
-        }
-        Denoter::Pointer(at, domain) => {
-            out.open_token("^", *at)?;
-            identifier(out, domain)?;
-        }
         Denoter::Array(is_packed, indices, component) => {
             out.open_word("array")?;
             packed(out, *is_packed)?;
@@ -108,6 +91,34 @@ pub fn denoter(out: &mut Written, x: &Denoter) -> Outcome {
             out.token("file", *at)?;
             denoter(out, component.get())?;
         }
+        _ => return Ok(()),
+    }
+    out.close()
+}
+
+#[cycle(types)]
+pub fn denoter(out: &mut Written, x: &Denoter) -> Outcome {
+    match x {
+        Denoter::Named(name) => return identifier(out, name),
+        Denoter::Fields(..) => {
+            out.open_word("fields")?;
+            fields(out, x)?;
+        }
+        Denoter::Enumeration(at, names) => {
+            out.open_token("enum", *at)?;
+            identifiers(out, names.as_slice())?;
+        }
+        Denoter::Subrange(first, last) => {
+            out.open_word("..")?;
+            constant(out, first)?;
+            constant(out, last)?;
+        }
+        Denoter::Pointer(at, domain) => {
+            out.open_token("^", *at)?;
+            identifier(out, domain)?;
+        }
+        Denoter::Array(..) | Denoter::Record(..) | Denoter::Set(..) | Denoter::File(..) =>
+            return structure(out, x),
     }
     out.close()
 }
