@@ -3,8 +3,8 @@
 //!
 //! The program reads texts, each ended by a line `=====`, and writes behind each text its answer. `stdin` has the
 //! texts: for each production of the grammar at least two, and then texts that are no programs. `stdout` has the same
-//! texts with the answers that are right, so that it is the page to read. What is generated, the limits and long texts,
-//! stands in `src/tests/`.
+//! texts with the answers that are right, so that it is the page to read. Texts that are too long to write down, those
+//! at the limits, stand in `mp_parse_limits`.
 //!
 //! # How an answer is written
 //!
@@ -67,6 +67,3 @@ fn main(rt: HostRuntime) -> io::Result<()> {
     };
     io::writer(&rt).write_all(out.bytes())
 }
-
-#[cfg(test)]
-mod tests;
