@@ -125,7 +125,7 @@ pub(crate) const LONG: &[(usize, &[(usize, &str)], Answer)] = &[
     (240_040, &[(1, "program p;type t=array[a"), (120_000, ",a"), (1, "]of b;begin end.")], Tree),
     (240_030, &[(1, "program p;begin with a"), (120_000, ",a"), (1, " do end.")], Tree),
     (240_023, &[(1, "program p(a"), (120_000, ",a"), (1, ");begin end.")], Tree),
-    // some of these with an error at the end at the end
+    // some of these with an error at the last token, and at the end
     (260_024, &[(1, "program p;begin a:=b"), (129_999, "+b"), (1, "+ end.")], Refused(201, 260_006)),
     (120_020, &[(1, "program p;begin a:=b"), (60_000, ".c")], Refused(202, 120_007)),
 ];
