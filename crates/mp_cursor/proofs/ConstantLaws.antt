@@ -24,15 +24,15 @@ comma = is (next.Symbol s.Comma)
 abbrev pub but_comma : Nexts
 but_comma = but (next.Symbol s.Comma ∷ [])
 
-pub law_identifiers : Law (is next.Identifier) but_comma identifiers (rule.separated (rule.symbol s.Comma) grammar.identifier)
+pub law_identifiers : Law true (is next.Identifier) but_comma identifiers (rule.separated (rule.symbol s.Comma) grammar.identifier)
 law_identifiers = law_separated (kind.Symbol s.Comma) (symbol_only s.Comma) but_comma law_identifier refl refl refl
 
-pub law_sign : Law signs any sign grammar.sign
+pub law_sign : Law true signs any sign grammar.sign
 unfolding sign
 law_sign = law_begun signs refl (law_branch (is (next.Symbol s.Plus)) (law_then (law_symbol s.Plus) refl (λ at. law_pure _ any)) refl refl (law_then (law_symbol s.Minus) refl (λ at. law_pure _ any)))
 
 -- before what begins with no sign
-pub law_optional_sign : (follow : Nexts) → apart follow signs ≡ true → Law (either signs follow) follow optional_sign (rule.optional grammar.sign)
+pub law_optional_sign : (follow : Nexts) → apart follow signs ≡ true → Law true (either signs follow) follow optional_sign (rule.optional grammar.sign)
 unfolding optional_sign
 law_optional_sign follow e = law_optional signs follow (law_followed follow (within_any follow) law_sign) refl e
 
@@ -43,16 +43,16 @@ constant_begins = among (next.Identifier ∷ next.Number ∷ next.Text ∷ next.
 abbrev unsigned : Nexts
 unsigned = among (next.Number ∷ next.Identifier ∷ [])
 
-law_signed : (s : Option Sign) → Law unsigned any (signed s) (c.Number s <$>ʳ grammar.number <|>ʳ c.Name s <$>ʳ grammar.identifier)
+law_signed : (s : Option Sign) → Law true unsigned any (signed s) (c.Number s <$>ʳ grammar.number <|>ʳ c.Name s <$>ʳ grammar.identifier)
 law_signed s = law_begun unsigned refl (law_branch (is next.Number) (law_map (c.Number s) law_number) refl refl (law_map (c.Name s) law_identifier))
 
-law_signed_constant : Law (either signs unsigned) any signed_constant grammar.signed_constant
+law_signed_constant : Law true (either signs unsigned) any signed_constant grammar.signed_constant
 unfolding signed_constant
 law_signed_constant = law_then (law_optional_sign unsigned refl) refl law_signed
 
-pub law_constant : Law constant_begins any constant grammar.constant
+pub law_constant : Law true constant_begins any constant grammar.constant
 unfolding constant
 law_constant = law_begun constant_begins refl (law_as (or_swapped _ _) (law_branch (is next.Text) (law_map c.Text law_string) refl refl law_signed_constant))
 
-pub law_constants : Law constant_begins but_comma constants (rule.separated (rule.symbol s.Comma) grammar.constant)
+pub law_constants : Law true constant_begins but_comma constants (rule.separated (rule.symbol s.Comma) grammar.constant)
 law_constants = law_separated (kind.Symbol s.Comma) (symbol_only s.Comma) but_comma law_constant refl refl refl

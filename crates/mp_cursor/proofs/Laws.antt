@@ -14,8 +14,10 @@ use Rattle.mp_cursor.specs.declared.next.Next.{Next}
 use Rattle.mp_cursor.specs.declared.next.Next.TheVariants as next
 use Rattle.mp_cursor.specs.Nexts.{next_of, class_of, is}
 use Rattle.mp_cursor.specs.Nexts.{Nexts}
-use Rattle.mp_cursor.specs.Parsers.{Outcome, Parser, and_then, ◌>>=◌, ◌<$>◌, pure, refuse, next_token, behind, behind_of, expect, wrong, here}
-use Rattle.mp_cursor.proofs.Settled.{Settles, settles_pure, settles_then, settles_wrong, settles_expect, settles_here}
+use Rattle.mp_cursor.specs.Parsers.{Outcome, Parser, and_then, ◌>>=◌, ◌<$>◌, pure, refuse, next_token, behind, behind_of, expect, wrong, here, left}
+use Rattle.mp_cursor.proofs.Recovery.{Moves, Recovers, Ends, no_else, failure_is, moves_pure, ends_pure, recovers_pure, moves_then, ends_then, recovers_then, moves_as, ends_as, recovers_as, moves_token, ends_token, recovers_first, moves_here, ends_here}
+use Rattle.mp_cursor.specs.declared.failure.Failure.{Failure}
+use Rattle.mp_cursor.proofs.Settled.{stopped, place, Settles, settles_pure, settles_then, settles_wrong, settles_expect, settles_here}
 use Rattle.mp_cursor.proofs.NextLemmas.{is_same, is_itself, only_word, only_symbol}
 use Rattle.mp_cursor.proofs.NextSets.{within, within_is}
 use Rattle.mp_cursor.specs.Nexts.{any}
@@ -24,13 +26,19 @@ abbrev pub read : {A : Type 0} → A → Input → Outcome A
 read x i = Ok (x, i)
 
 -- before such a token, and where such a token follows
-pub record Law {A : Type 0} (first follow : Nexts) (p : Parser A) (r : Rule A) : Type 0 where
+pub record Law {A : Type 0} (finishes : Bool) (first follow : Nexts) (p : Parser A) (r : Rule A) : Type 0 where
   pub sound : (i : Input) (x : A) (j : Input) → p i ≡ read x j → r i x j
   pub complete : (i : Input) (x : A) (j : Input) → r i x j → follow (next_token j) ≡ true → p i ≡ read x j
   pub begins : (i : Input) (x : A) (j : Input) → r i x j → follow (next_token j) ≡ true → first (next_token i) ≡ true
   pub shrinks : (i : Input) (x : A) (j : Input) → p i ≡ read x j → length j.rest ≤ length i.rest
   -- it looks at one token past those that it takes
   pub settles : Settles p
+  -- what it takes may stand before anything else, but for an `else`
+  pub moves : Moves r
+  -- where it stops behind its first token, what it took can be finished
+  pub recovers : Recovers p r
+  -- it can be finished from the start, where it is said to
+  pub ends : finishes ≡ true → Ends r
 
 -- ---- outcomes
 
@@ -46,17 +54,20 @@ read_is {A} x y i j h = let e : ◌≡◌ {A = A × Input} (x, i) (y, j) = cc in
 
 -- ---- nothing, one after another, and values
 
-pub law_pure : {A : Type 0} (x : A) (g : Nexts) → Law g g (pure x) (gives x)
+pub law_pure : {A : Type 0} (x : A) (g : Nexts) → Law true g g (pure x) (gives x)
 law_pure x g = record {
   sound = λ i y j h. read_is x y i j h;
   complete = λ i y j h e. ap (λ z. read z i) h.0 ∙ ap (λ m. read y m) h.1;
   begins = λ i y j h e. ap (λ m. g (next_token m)) h.1 ∙ e;
   shrinks = λ i y j h. let e = ap (λ m. length m.rest) (read_is x y i j h).1 in omega arith;
   settles = settles_pure x;
+  moves = moves_pure x;
+  recovers = recovers_pure x;
+  ends = λ e. ends_pure x;
 }
 
-pub law_then : {A B : Type 0} {f g fq h : Nexts} {p : Parser A} {r : Rule A} {q : A → Parser B} {s : A → Rule B} → Law f g p r → within fq g ≡ true → ((x : A) → Law fq h (q x) (s x)) → Law f h (p >>= q) (r >>=ʳ s)
-law_then {g = g} {fq = fq} {p = p} {q = q} a w b = record {
+pub law_then : {A B : Type 0} {b : Bool} {f g fq h : Nexts} {p : Parser A} {r : Rule A} {q : A → Parser B} {s : A → Rule B} → Law b f g p r → within fq g ≡ true → ((x : A) → Law true fq h (q x) (s x)) → Law b f h (p >>= q) (r >>=ʳ s)
+law_then {g = g} {fq = fq} {p = p} {r = r} {q = q} {s = s} a w b = record {
   sound = λ i y j e.
       let o = both_ok (p i) q y j e in
       (o.0, o.1, a.sound i o.0 o.1 o.2, (b o.0).sound o.1 y j o.3);
@@ -70,13 +81,16 @@ law_then {g = g} {fq = fq} {p = p} {q = q} a w b = record {
       let n = (b o.0).shrinks o.1 y j o.3 in
       omega arith;
   settles = settles_then p q a.settles (λ x. (b x).settles);
+  moves = moves_then r s a.moves (λ x. (b x).moves);
+  recovers = recovers_then p q r s a.sound a.moves a.recovers (λ x. (b x).settles) (λ x. (b x).ends refl) (λ x. (b x).recovers);
+  ends = λ e. ends_then r s (a.ends e) (λ x. (b x).ends refl);
 }
 
 pub within_self : (g : Nexts) (n : Next) → g n ≡ true → g n ≡ true
 within_self g n e = e
 
-pub law_map : {A B : Type 0} {f g : Nexts} {p : Parser A} {r : Rule A} (b : A → B) → Law f g p r → Law f g (b <$> p) (b <$>ʳ r)
-law_map {f = f} {g = g} {p = p} b a = record {
+pub law_map : {A B : Type 0} {c : Bool} {f g : Nexts} {p : Parser A} {r : Rule A} (b : A → B) → Law c f g p r → Law c f g (b <$> p) (b <$>ʳ r)
+law_map {f = f} {g = g} {p = p} {r = r} b a = record {
   sound = λ i y j e.
       let o = both_ok (p i) (λ x. pure (b x)) y j e in
       (o.0, o.1, a.sound i o.0 o.1 o.2, read_is (b o.0) y o.1 j o.3);
@@ -90,25 +104,34 @@ law_map {f = f} {g = g} {p = p} b a = record {
       let n = ap (λ m. length m.rest) (read_is (b o.0) y o.1 j o.3).1 in
       omega arith;
   settles = settles_then p (λ x. pure (b x)) a.settles (λ x. settles_pure (b x));
+  moves = moves_then r (λ x. gives (b x)) a.moves (λ x. moves_pure (b x));
+  recovers = recovers_then p (λ x. pure (b x)) r (λ x. gives (b x)) a.sound a.moves a.recovers (λ x. settles_pure (b x)) (λ x. ends_pure (b x)) (λ x. recovers_pure (b x));
+  ends = λ e. ends_then r (λ x. gives (b x)) (a.ends e) (λ x. ends_pure (b x));
 }
 
 -- where fewer tokens may follow, or more may come first
-pub law_followed : {A : Type 0} {f g : Nexts} {p : Parser A} {r : Rule A} (h : Nexts) → within h g ≡ true → Law f g p r → Law f h p r
+pub law_followed : {A : Type 0} {b : Bool} {f g : Nexts} {p : Parser A} {r : Rule A} (h : Nexts) → within h g ≡ true → Law b f g p r → Law b f h p r
 law_followed {g = g} h w a = record {
   sound = a.sound;
   complete = λ i x j d e. a.complete i x j d (within_is h g w (next_token j) e);
   begins = λ i x j d e. a.begins i x j d (within_is h g w (next_token j) e);
   shrinks = a.shrinks;
   settles = a.settles;
+  moves = a.moves;
+  recovers = a.recovers;
+  ends = a.ends;
 }
 
-pub law_begun : {A : Type 0} {f g : Nexts} {p : Parser A} {r : Rule A} (h : Nexts) → within f h ≡ true → Law f g p r → Law h g p r
+pub law_begun : {A : Type 0} {b : Bool} {f g : Nexts} {p : Parser A} {r : Rule A} (h : Nexts) → within f h ≡ true → Law b f g p r → Law b h g p r
 law_begun {f = f} h w a = record {
   sound = a.sound;
   complete = a.complete;
   begins = λ i x j d e. within_is f h w (next_token i) (a.begins i x j d e);
   shrinks = a.shrinks;
   settles = a.settles;
+  moves = a.moves;
+  recovers = a.recovers;
+  ends = a.ends;
 }
 
 -- of a rule that allows the same
@@ -116,13 +139,42 @@ pub record Same {A : Type 0} (r s : Rule A) : Type 0 where
   pub to : (i : Input) (x : A) (j : Input) → r i x j → s i x j
   pub back : (i : Input) (x : A) (j : Input) → s i x j → r i x j
 
-pub law_as : {A : Type 0} {f g : Nexts} {p : Parser A} {r s : Rule A} → Same r s → Law f g p r → Law f g p s
-law_as e a = record {
+pub law_as : {A : Type 0} {b : Bool} {f g : Nexts} {p : Parser A} {r s : Rule A} → Same r s → Law b f g p r → Law b f g p s
+law_as {p = p} {r = r} {s = s} e a = record {
   sound = λ i x j h. e.to i x j (a.sound i x j h);
   complete = λ i x j d h. a.complete i x j (e.back i x j d) h;
   begins = λ i x j d h. a.begins i x j (e.back i x j d) h;
   shrinks = a.shrinks;
   settles = a.settles;
+  moves = moves_as r s e.to e.back a.moves;
+  recovers = recovers_as p r s e.to a.recovers;
+  ends = λ h. ends_as r s e.to (a.ends h);
+}
+
+-- where it need not be finished
+pub law_unfinished : {A : Type 0} {b : Bool} {f g : Nexts} {p : Parser A} {r : Rule A} → Law b f g p r → Law false f g p r
+law_unfinished a = record {
+  sound = a.sound;
+  complete = a.complete;
+  begins = a.begins;
+  shrinks = a.shrinks;
+  settles = a.settles;
+  moves = a.moves;
+  recovers = a.recovers;
+  ends = λ e. absurd (let n : ⊥ = cc in n);
+}
+
+-- where it can be finished after all
+pub law_ends : {A : Type 0} {b : Bool} {f g : Nexts} {p : Parser A} {r : Rule A} → Ends r → Law b f g p r → Law true f g p r
+law_ends h a = record {
+  sound = a.sound;
+  complete = a.complete;
+  begins = a.begins;
+  shrinks = a.shrinks;
+  settles = a.settles;
+  moves = a.moves;
+  recovers = a.recovers;
+  ends = λ e. h;
 }
 
 -- ---- tokens
@@ -179,7 +231,16 @@ end_by k false o e = refl
 pub not_end : (k : TokenKind) → IsOnly k → is (class_of k) next.End ≡ false
 not_end k o = end_by k (is (class_of k) next.End) o refl
 
-pub law_expect : (k : TokenKind) → IsOnly k → Law (is (class_of k)) any (expect (class_of k)) (token k)
+pub refused_first : (b : Bool) (i : Input) (e : Failure) → (if b then read i.at (behind i) else Err (wrong i)) ≡ stopped e → place e ≡ length i.rest
+unfolding wrong left
+refused_first true i e h = absurd (let n : ⊥ = cc in n)
+refused_first false i e h = sym (ap place (failure_is {A = ℕ} (wrong i) e h))
+
+pub expect_first : (k : TokenKind) (i : Input) (e : Failure) → expect (class_of k) i ≡ stopped e → place e ≡ length i.rest
+unfolding expect
+expect_first k i e h = refused_first (is (class_of k) (next_token i)) i e h
+
+pub law_expect : (k : TokenKind) → IsOnly k → Law (no_else k) (is (class_of k)) any (expect (class_of k)) (token k)
 unfolding expect
 law_expect k o = record {
   sound = λ i at j h.
@@ -195,29 +256,42 @@ law_expect k o = record {
       let l = token_falls k i at j (takes k o i at j (sym (is_same (class_of k) (next_token i) w.0)) w.1) in
       omega arith;
   settles = settles_expect (class_of k) (not_end k o);
+  moves = moves_token k;
+  recovers = recovers_first (expect (class_of k)) (token k) (λ i e h. refused_first (is (class_of k) (next_token i)) i e h);
+  ends = λ h. ends_token k h;
 }
 
-pub law_word : (v : WordSymbol) → Law (is (next.Word v)) any (expect (next.Word v)) (rule.word v)
+pub law_word : (v : WordSymbol) → Law (no_else (kind.Word v)) (is (next.Word v)) any (expect (next.Word v)) (rule.word v)
 law_word v = law_expect (kind.Word v) (word_only v)
 
-pub law_symbol : (v : Symbol) → Law (is (next.Symbol v)) any (expect (next.Symbol v)) (rule.symbol v)
+pub law_symbol : (v : Symbol) → Law true (is (next.Symbol v)) any (expect (next.Symbol v)) (rule.symbol v)
 law_symbol v = law_expect (kind.Symbol v) (symbol_only v)
 
-pub law_here : (g : Nexts) → Law g g here rule.here
+pub law_here : (g : Nexts) → Law true g g here rule.here
 law_here g = record {
   sound = λ i at j h. read_is i.at at i j h;
   complete = λ i at j d e. ap (λ n. read n i) d.0 ∙ ap (λ m. read at m) d.1;
   begins = λ i at j d e. ap (λ m. g (next_token m)) d.1 ∙ e;
   shrinks = λ i at j h. let e = ap (λ m. length m.rest) (read_is i.at at i j h).1 in omega arith;
   settles = settles_here;
+  moves = moves_here;
+  recovers = λ i e h l. absurd (let n : ⊥ = cc in n);
+  ends = λ e. ends_here;
 }
 
 -- what is never read
-pub law_never : {A : Type 0} (f g : Nexts) → Law f g (refuse {A = A}) rule.none
-law_never f g = record {
+never_first : {A : Type 0} (i : Input) (e : Failure) → refuse {A = A} i ≡ stopped e → place e ≡ length i.rest
+unfolding wrong left
+never_first {A} i e h = sym (ap place (failure_is {A = A} (wrong i) e h))
+
+pub law_never : {A : Type 0} (f g : Nexts) → Law false f g (refuse {A = A}) rule.none
+law_never {A} f g = record {
   sound = λ i x j h. absurd (let n : ⊥ = cc in n);
   complete = λ i x j d e. absurd d;
   begins = λ i x j d e. absurd d;
   shrinks = λ i x j h. absurd (let n : ⊥ = cc in n);
   settles = settles_wrong;
+  moves = λ i x j d. absurd d;
+  recovers = recovers_first (refuse {A = A}) rule.none never_first;
+  ends = λ e. absurd (let n : ⊥ = cc in n);
 }

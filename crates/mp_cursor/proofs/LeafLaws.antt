@@ -1,9 +1,10 @@
 -- The laws of leaves and of tokens that open.
-use Rattle.std.proofs.Common.{◌≡◌, ℕ, zero, suc, ◌+◌, Bool, true, false, List, [], ◌∷◌, length, Err, sym, ap, ◌∙◌, arith}
+use Rattle.std.proofs.Common.{◌≡◌, ℕ, zero, suc, ◌+◌, Bool, true, false, List, [], ◌∷◌, length, Ok, Err, refl, sym, ap, ◌∙◌, arith}
 use Rattle.std.proofs.lemmas.Bool.{lt-ltb}
 use Rattle.std.proofs.lemmas.Slice.Eq.{bytes_eq-Decides}
 use Rattle.std.specs.Prelude.{if◌then◌else◌, nat_lt, bytes_eq}
-use Rattle.mp_cursor.specs.declared.failure.Failure.TheVariants.{Wrong}
+use Rattle.mp_cursor.specs.declared.failure.Failure.{Failure}
+use Rattle.mp_cursor.specs.declared.failure.Failure.TheVariants.{Wrong, TooDeep}
 use Rattle.mp_ast.specs.declared.tokens.TokenKind.{TokenKind}
 use Rattle.mp_ast.specs.declared.tokens.TokenKind.TheVariants as kind
 use Rattle.mp_ast.specs.declared.words.WordSymbol.{WordSymbol}
@@ -12,15 +13,18 @@ use Rattle.mp_ast.specs.declared.leaves.Identifier.{Identifier}
 use Rattle.mp_ast.specs.declared.leaves.Number.{Number}
 use Rattle.mp_ast.specs.declared.leaves.CharacterString.{CharacterString}
 use Rattle.mp_ast.specs.Rules.{Input, Rule, token}
+use Rattle.mp_ast.specs.Rules.{◌>>=◌ as ◌>>=ʳ◌}
 use Rattle.mp_ast.specs.Rules as rule
 use Rattle.mp_ast.specs.LeafGrammar as leaf
 use Rattle.mp_cursor.specs.declared.next.Next.{Next}
 use Rattle.mp_cursor.specs.declared.next.Next.TheVariants as next
-use Rattle.mp_cursor.specs.Nexts.{next_of, class_of, is}
-use Rattle.mp_cursor.specs.Parsers.{next_token, expect, wrong, identifier, identifier_of, number, number_of, character_string, string_of, directive, directive_of, opening, open_where}
+use Rattle.mp_cursor.specs.Nexts.{Nexts, next_of, class_of, is}
+use Rattle.mp_cursor.specs.Parsers.{Outcome, Parser, and_then, ◌>>=◌, too_deep, left, next_token, expect, wrong, identifier, identifier_of, number, number_of, character_string, string_of, directive, directive_of, opening, open_where}
 use Rattle.mp_cursor.specs.Nexts.{any}
-use Rattle.mp_cursor.proofs.Settled.{settles_identifier, settles_number, settles_string, settles_directive, settles_opening}
-use Rattle.mp_cursor.proofs.Laws.{not_end, Law, read, read_is, IsOnly, word_only, symbol_only, law_expect}
+use Rattle.mp_cursor.proofs.Settled.{Settled, stopped, place, settles_identifier, settles_number, settles_string, settles_directive, settles_opening}
+use Rattle.mp_cursor.proofs.Recovery.{no_else, failure_is, moves_token, ends_token, recovers_first}
+use Rattle.mp_cursor.proofs.NextSets.{within_any}
+use Rattle.mp_cursor.proofs.Laws.{not_end, Law, law_then, law_ends, both_ok, read, read_is, IsOnly, word_only, symbol_only, law_expect}
 
 -- ---- leaves
 
@@ -70,7 +74,15 @@ a_number at value = record { at = at; value = value }
 abbrev a_string : ℕ → List ℕ → CharacterString
 a_string at characters = record { at = at; characters = characters }
 
-pub law_identifier : Law (is next.Identifier) any identifier leaf.identifier
+identifier_first : (at declared : ℕ) (ks : List TokenKind) (e : Failure) → identifier_of at declared ks ≡ stopped e → place e ≡ length ks
+identifier_first at declared [] e h = sym (ap place (failure_is {A = Identifier} (Wrong 0) e h))
+identifier_first at declared (kind.Id v ∷ ks) e h = absurd (let n : ⊥ = cc in n)
+identifier_first at declared (kind.Number v ∷ ks) e h = sym (ap place (failure_is {A = Identifier} (Wrong (length (kind.Number v ∷ ks))) e h))
+identifier_first at declared (kind.Text v ∷ ks) e h = sym (ap place (failure_is {A = Identifier} (Wrong (length (kind.Text v ∷ ks))) e h))
+identifier_first at declared (kind.Word v ∷ ks) e h = sym (ap place (failure_is {A = Identifier} (Wrong (length (kind.Word v ∷ ks))) e h))
+identifier_first at declared (kind.Symbol v ∷ ks) e h = sym (ap place (failure_is {A = Identifier} (Wrong (length (kind.Symbol v ∷ ks))) e h))
+
+pub law_identifier : Law true (is next.Identifier) any identifier leaf.identifier
 unfolding identifier next_token
 law_identifier = record {
   sound = λ i x j h. identifier_sound i.at i.declared i.rest x j h;
@@ -81,9 +93,20 @@ law_identifier = record {
   begins = λ i x j d e. ap (λ ks. is next.Identifier (next_of ks)) d.0;
   shrinks = λ i x j h. let e = ap (λ ks. length ks) (identifier_sound i.at i.declared i.rest x j h).0 in omega arith;
   settles = settles_identifier;
+  moves = λ i x j d. (kind.Id x.name ∷ [], d.0, λ t h. (refl, d.1, d.2, d.3));
+  recovers = recovers_first identifier leaf.identifier (λ i e h. identifier_first i.at i.declared i.rest e h);
+  ends = λ e i. (kind.Id (97 ∷ []) ∷ [], an_identifier i.at (97 ∷ []), input (i.at + 1) i.declared [], λ t o. refl, λ t o. (refl, refl, refl, refl));
 }
 
-pub law_number : Law (is next.Number) any number leaf.number
+number_first : (at declared : ℕ) (ks : List TokenKind) (e : Failure) → number_of at declared ks ≡ stopped e → place e ≡ length ks
+number_first at declared [] e h = sym (ap place (failure_is {A = Number} (Wrong 0) e h))
+number_first at declared (kind.Id v ∷ ks) e h = sym (ap place (failure_is {A = Number} (Wrong (length (kind.Id v ∷ ks))) e h))
+number_first at declared (kind.Number v ∷ ks) e h = absurd (let n : ⊥ = cc in n)
+number_first at declared (kind.Text v ∷ ks) e h = sym (ap place (failure_is {A = Number} (Wrong (length (kind.Text v ∷ ks))) e h))
+number_first at declared (kind.Word v ∷ ks) e h = sym (ap place (failure_is {A = Number} (Wrong (length (kind.Word v ∷ ks))) e h))
+number_first at declared (kind.Symbol v ∷ ks) e h = sym (ap place (failure_is {A = Number} (Wrong (length (kind.Symbol v ∷ ks))) e h))
+
+pub law_number : Law true (is next.Number) any number leaf.number
 unfolding number next_token
 law_number = record {
   sound = λ i x j h. number_sound i.at i.declared i.rest x j h;
@@ -94,9 +117,20 @@ law_number = record {
   begins = λ i x j d e. ap (λ ks. is next.Number (next_of ks)) d.0;
   shrinks = λ i x j h. let e = ap (λ ks. length ks) (number_sound i.at i.declared i.rest x j h).0 in omega arith;
   settles = settles_number;
+  moves = λ i x j d. (kind.Number x.value ∷ [], d.0, λ t h. (refl, d.1, d.2, d.3));
+  recovers = recovers_first number leaf.number (λ i e h. number_first i.at i.declared i.rest e h);
+  ends = λ e i. (kind.Number 1 ∷ [], a_number i.at 1, input (i.at + 1) i.declared [], λ t o. refl, λ t o. (refl, refl, refl, refl));
 }
 
-pub law_string : Law (is next.Text) any character_string leaf.character_string
+string_first : (at declared : ℕ) (ks : List TokenKind) (e : Failure) → string_of at declared ks ≡ stopped e → place e ≡ length ks
+string_first at declared [] e h = sym (ap place (failure_is {A = CharacterString} (Wrong 0) e h))
+string_first at declared (kind.Id v ∷ ks) e h = sym (ap place (failure_is {A = CharacterString} (Wrong (length (kind.Id v ∷ ks))) e h))
+string_first at declared (kind.Number v ∷ ks) e h = sym (ap place (failure_is {A = CharacterString} (Wrong (length (kind.Number v ∷ ks))) e h))
+string_first at declared (kind.Text v ∷ ks) e h = absurd (let n : ⊥ = cc in n)
+string_first at declared (kind.Word v ∷ ks) e h = sym (ap place (failure_is {A = CharacterString} (Wrong (length (kind.Word v ∷ ks))) e h))
+string_first at declared (kind.Symbol v ∷ ks) e h = sym (ap place (failure_is {A = CharacterString} (Wrong (length (kind.Symbol v ∷ ks))) e h))
+
+pub law_string : Law true (is next.Text) any character_string leaf.character_string
 unfolding character_string next_token
 law_string = record {
   sound = λ i x j h. string_sound i.at i.declared i.rest x j h;
@@ -107,6 +141,9 @@ law_string = record {
   begins = λ i x j d e. ap (λ ks. is next.Text (next_of ks)) d.0;
   shrinks = λ i x j h. let e = ap (λ ks. length ks) (string_sound i.at i.declared i.rest x j h).0 in omega arith;
   settles = settles_string;
+  moves = λ i x j d. (kind.Text x.characters ∷ [], d.0, λ t h. (refl, d.1, d.2, d.3));
+  recovers = recovers_first character_string leaf.character_string (λ i e h. string_first i.at i.declared i.rest e h);
+  ends = λ e i. (kind.Text (97 ∷ []) ∷ [], a_string i.at (97 ∷ []), input (i.at + 1) i.declared [], λ t o. refl, λ t o. (refl, refl, refl, refl));
 }
 
 -- ---- directives
@@ -128,7 +165,19 @@ directive_sound spelling at declared (kind.Text v ∷ ks) x j h = absurd (let n 
 directive_sound spelling at declared (kind.Word v ∷ ks) x j h = absurd (let n : ⊥ = cc in n)
 directive_sound spelling at declared (kind.Symbol v ∷ ks) x j h = absurd (let n : ⊥ = cc in n)
 
-pub law_directive : (spelling : List ℕ) → Law (is next.Identifier) any (directive spelling) (token (kind.Id spelling))
+misspelled_first : (at declared : ℕ) (ks all : List TokenKind) (b : Bool) (e : Failure) → (if b then read at (input (at + 1) declared ks) else Err (Wrong (length all))) ≡ stopped e → place e ≡ length all
+misspelled_first at declared ks all true e h = absurd (let n : ⊥ = cc in n)
+misspelled_first at declared ks all false e h = sym (ap place (failure_is {A = ℕ} (Wrong (length all)) e h))
+
+directive_first : (spelling : List ℕ) (at declared : ℕ) (ks : List TokenKind) (e : Failure) → directive_of spelling at declared ks ≡ stopped e → place e ≡ length ks
+directive_first spelling at declared [] e h = sym (ap place (failure_is {A = ℕ} (Wrong 0) e h))
+directive_first spelling at declared (kind.Id name ∷ ks) e h = misspelled_first at declared ks (kind.Id name ∷ ks) (bytes_eq name spelling) e h
+directive_first spelling at declared (kind.Number v ∷ ks) e h = sym (ap place (failure_is {A = ℕ} (Wrong (length (kind.Number v ∷ ks))) e h))
+directive_first spelling at declared (kind.Text v ∷ ks) e h = sym (ap place (failure_is {A = ℕ} (Wrong (length (kind.Text v ∷ ks))) e h))
+directive_first spelling at declared (kind.Word v ∷ ks) e h = sym (ap place (failure_is {A = ℕ} (Wrong (length (kind.Word v ∷ ks))) e h))
+directive_first spelling at declared (kind.Symbol v ∷ ks) e h = sym (ap place (failure_is {A = ℕ} (Wrong (length (kind.Symbol v ∷ ks))) e h))
+
+pub law_directive : (spelling : List ℕ) → Law true (is next.Identifier) any (directive spelling) (token (kind.Id spelling))
 unfolding directive next_token
 law_directive spelling = record {
   sound = λ i x j h. directive_sound spelling i.at i.declared i.rest x j h;
@@ -140,6 +189,9 @@ law_directive spelling = record {
   begins = λ i x j d e. ap (λ ks. is next.Identifier (next_of ks)) d.0;
   shrinks = λ i x j h. let e = ap (λ ks. length ks) (directive_sound spelling i.at i.declared i.rest x j h).0 in omega arith;
   settles = settles_directive spelling;
+  moves = moves_token (kind.Id spelling);
+  recovers = recovers_first (directive spelling) (token (kind.Id spelling)) (λ i e h. directive_first spelling i.at i.declared i.rest e h);
+  ends = λ e. ends_token (kind.Id spelling) refl;
 }
 
 -- ---- tokens that open
@@ -155,7 +207,21 @@ never : (b : Bool) (i : Input) (at : ℕ) (j : Input) → Refused b i at j
 never true i at j = λ h. let n : ⊥ = cc in n
 never false i at j = λ h. let n : ⊥ = cc in n
 
-pub law_opening : (k : TokenKind) → IsOnly k → (room : ℕ) → Law (is (class_of k)) any (opening room (class_of k)) (rule.opener room k)
+-- whether an opener more may stand open
+abbrev pub has_room : ℕ → Bool
+has_room zero = false
+has_room (suc room) = true
+
+shut_first : (b : Bool) (i : Input) (e : Failure) → (if b then open_where (nat_lt 0 0) i else Err (wrong i)) ≡ stopped e → place e ≡ length i.rest
+unfolding wrong too_deep left
+shut_first true i e h = sym (ap place (failure_is {A = ℕ} (TooDeep (length i.rest)) e h))
+shut_first false i e h = sym (ap place (failure_is {A = ℕ} (Wrong (length i.rest)) e h))
+
+shut_opening : (k : TokenKind) (i : Input) (e : Failure) → opening zero (class_of k) i ≡ stopped e → place e ≡ length i.rest
+unfolding opening
+shut_opening k i e h = shut_first (is (class_of k) (next_token i)) i e h
+
+pub law_opening : (k : TokenKind) → IsOnly k → (room : ℕ) → Law false (is (class_of k)) any (opening room (class_of k)) (rule.opener room k)
 unfolding opening
 law_opening k o zero = record {
   sound = λ i at j h. absurd (never (is (class_of k) (next_token i)) i at j h);
@@ -163,6 +229,9 @@ law_opening k o zero = record {
   begins = λ i at j d e. absurd d;
   shrinks = λ i at j h. absurd (never (is (class_of k) (next_token i)) i at j h);
   settles = settles_opening zero (class_of k) (not_end k o);
+  moves = λ i at j d. absurd d;
+  recovers = recovers_first (opening zero (class_of k)) (rule.opener zero k) (λ i e h. shut_first (is (class_of k) (next_token i)) i e h);
+  ends = λ e. absurd (let n : ⊥ = cc in n);
 }
 law_opening k o (suc room) =
     let a = law_expect k o in
@@ -172,10 +241,37 @@ law_opening k o (suc room) =
       begins = a.begins;
       shrinks = λ i at j h. a.shrinks i at j (sym (opens_with_room room (class_of k) i) ∙ h);
       settles = settles_opening (suc room) (class_of k) (not_end k o);
+      moves = moves_token k;
+      recovers = λ i e h. a.recovers i e (sym (opens_with_room room (class_of k) i) ∙ h);
+      ends = λ e. absurd (let n : ⊥ = cc in n);
     }
 
-pub law_opening_word : (room : ℕ) (v : WordSymbol) → Law (is (next.Word v)) any (opening room (next.Word v)) (rule.opener room (kind.Word v))
-law_opening_word room v = law_opening (kind.Word v) (word_only v) room
+shut_behind : {B : Type 0} (q : ℕ → Parser B) (o : Outcome ℕ) (i : Input) (e : Failure) → ((at : ℕ) (j : Input) → o ≡ read at j → ⊥) → ((f : Failure) → o ≡ stopped f → place f ≡ length i.rest) → and_then o q ≡ stopped e → place e ≡ length i.rest
+shut_behind q (Ok x) i e h g u = absurd (h x.0 x.1 refl)
+shut_behind {B} q (Err f) i e h g u = ap place (sym (failure_is {A = B} f e u)) ∙ g f refl
 
-pub law_opening_symbol : (room : ℕ) (v : Symbol) → Law (is (next.Symbol v)) any (opening room (next.Symbol v)) (rule.opener room (kind.Symbol v))
-law_opening_symbol room v = law_opening (kind.Symbol v) (symbol_only v) room
+stuck_by : {B : Type 0} (p : Parser ℕ) (q : ℕ → Parser B) (i : Input) (o : Outcome ℕ) → Settled p i o → ((at : ℕ) (j : Input) → o ≡ read at j → ⊥) → Settled (p >>= q) i (and_then o q)
+stuck_by p q i (Ok x) s h = absurd (h x.0 x.1 refl)
+stuck_by p q i (Err e) s h = (s.0, s.1, s.2, s.3, λ more g. ap (λ o. and_then o q) (s.4 more g))
+
+-- an opener, and what stands behind it where there is room for it
+pub law_opened : {B : Type 0} {f h : Nexts} {q : ℕ → Parser B} {s : ℕ → Rule B} (k : TokenKind) → IsOnly k → no_else k ≡ true → (room : ℕ) → ((n : ℕ) → room ≡ suc n → (at : ℕ) → Law true f h (q at) (s at)) → Law (has_room room) (is (class_of k)) h (opening room (class_of k) >>= q) (rule.opener room k >>=ʳ s)
+law_opened {q = q} {s = s} k o other zero a =
+    let w = law_opening k o zero in
+    record {
+      sound = λ i x j e. let u = both_ok (opening zero (class_of k) i) q x j e in absurd (w.sound i u.0 u.1 u.2);
+      complete = λ i x j d e. absurd d.2;
+      begins = λ i x j d e. absurd d.2;
+      shrinks = λ i x j e. let u = both_ok (opening zero (class_of k) i) q x j e in absurd (w.sound i u.0 u.1 u.2);
+      settles = λ i. stuck_by (opening zero (class_of k)) q i (opening zero (class_of k) i) (w.settles i) (λ at j e. w.sound i at j e);
+      moves = λ i x j d. absurd d.2;
+      recovers = recovers_first (opening zero (class_of k) >>= q) (rule.opener zero k >>=ʳ s) (λ i e u. shut_behind q (opening zero (class_of k) i) i e (λ at j g. w.sound i at j g) (λ f g. shut_opening k i f g) u);
+      ends = λ e. absurd (let n : ⊥ = cc in n);
+    }
+law_opened {f = f} k o other (suc room) a = law_then (law_ends (ends_token k other) (law_opening k o (suc room))) (within_any f) (λ at. a room refl at)
+
+pub law_opened_word : {B : Type 0} {f h : Nexts} {q : ℕ → Parser B} {s : ℕ → Rule B} (v : WordSymbol) → no_else (kind.Word v) ≡ true → (room : ℕ) → ((n : ℕ) → room ≡ suc n → (at : ℕ) → Law true f h (q at) (s at)) → Law (has_room room) (is (next.Word v)) h (opening room (next.Word v) >>= q) (rule.opener room (kind.Word v) >>=ʳ s)
+law_opened_word v other room a = law_opened (kind.Word v) (word_only v) other room a
+
+pub law_opened_symbol : {B : Type 0} {f h : Nexts} {q : ℕ → Parser B} {s : ℕ → Rule B} (v : Symbol) (room : ℕ) → ((n : ℕ) → room ≡ suc n → (at : ℕ) → Law true f h (q at) (s at)) → Law (has_room room) (is (next.Symbol v)) h (opening room (next.Symbol v) >>= q) (rule.opener room (kind.Symbol v) >>=ʳ s)
+law_opened_symbol v room a = law_opened (kind.Symbol v) (symbol_only v) refl room a

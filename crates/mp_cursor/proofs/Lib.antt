@@ -1,6 +1,7 @@
 pub mod NextLemmas
 pub mod NextSets
 pub mod Settled
+pub mod Recovery
 pub mod Laws
 pub mod SameRules
 pub mod LeafLaws

@@ -1,12 +1,12 @@
 -- The laws of lists: of what goes on while the next token is of a set, and of what has separators.
-use Rattle.std.proofs.Common.{◌≡◌, ℕ, zero, suc, ◌<◌, ◌≤◌, Bool, true, false, List, [], ◌∷◌, ◌++◌, length, refl, sym, ap, ◌∙◌, subst, append_assoc, arith}
+use Rattle.std.proofs.Common.{◌≡◌, ◌⊎◌, inl, inr, Ok, Err, ℕ, zero, suc, ◌<◌, ◌≤◌, Bool, true, false, List, [], ◌∷◌, ◌++◌, length, refl, sym, ap, ◌∙◌, subst, append_assoc, arith}
 use Rattle.std.proofs.lemmas.List.{append-nil}
 use Rattle.std.specs.Prelude.{if◌then◌else◌}
 use Rattle.mp_ast.specs.Rules.{Input, Rule, gives, token, Many, no_more, one_more, many, joined, many_lists}
 use Rattle.mp_ast.specs.Rules.{◌>>=◌ as ◌>>=ʳ◌, ◌>>◌ as ◌>>ʳ◌, ◌<$>◌ as ◌<$>ʳ◌}
 use Rattle.mp_ast.specs.Rules as rule
 use Rattle.mp_cursor.specs.Nexts.{Nexts}
-use Rattle.mp_cursor.specs.Parsers.{Parser, and_then, ◌>>=◌, ◌>>◌, ◌<$>◌, pure, next_token, branch, loop, repeated, and_one, and_all, separated, expect, opening, identifier, number, left}
+use Rattle.mp_cursor.specs.Parsers.{Outcome, Parser, and_then, ◌>>=◌, ◌>>◌, ◌<$>◌, pure, next_token, branch, loop, repeated, and_one, and_all, separated, expect, opening, identifier, number, left}
 use Rattle.mp_cursor.specs.Nexts.{is, class_of}
 use Rattle.mp_ast.specs.declared.tokens.TokenKind.{TokenKind}
 use Rattle.mp_ast.specs.declared.tokens.TokenKind.TheVariants as kind
@@ -18,6 +18,9 @@ use Rattle.mp_cursor.proofs.NextSets.{within, apart, within_is, apart_is, either
 use Rattle.mp_cursor.specs.Nexts.{either}
 use Rattle.mp_cursor.proofs.SameRules.{same_value, same_itself}
 use Rattle.mp_cursor.proofs.Settled.{settles_repeated}
+use Rattle.mp_cursor.specs.declared.failure.Failure.{Failure}
+use Rattle.mp_cursor.proofs.Settled.{place, stopped}
+use Rattle.mp_cursor.proofs.Recovery.{no_else, failure_is, Taken, Ends, Recovers, Front, Stops, stops_where, front_as, front_first, front_second, front_between, moves_then, ends_then, moves_pure, ends_pure, moves_many, ends_many}
 use Rattle.mp_cursor.proofs.Laws.{not_end, Law, read, read_is, both_ok, law_then, law_map, law_as, law_expect, IsOnly, word_only, symbol_only, token_falls}
 
 -- a parser that takes a token at least
@@ -37,7 +40,7 @@ pub falls_opening : (room : ℕ) (k : TokenKind) → IsOnly k → Falls (opening
 falls_opening zero k o = record { by = λ i at j h. absurd ((law_opening k o zero).sound i at j h) }
 falls_opening (suc room) k o = record { by = λ i at j h. token_falls k i at j ((law_opening k o (suc room)).sound i at j h) }
 
-pub falls_then : {A B : Type 0} {f g : Nexts} {p : Parser A} {q : A → Parser B} {s : A → Rule B} → Falls p → ((x : A) → Law f g (q x) (s x)) → Falls (p >>= q)
+pub falls_then : {A B : Type 0} {u : Bool} {f g : Nexts} {p : Parser A} {q : A → Parser B} {s : A → Rule B} → Falls p → ((x : A) → Law u f g (q x) (s x)) → Falls (p >>= q)
 falls_then {p = p} {q = q} a b = record {
   by = λ i y j h.
       let o = both_ok (p i) q y j h in
@@ -47,7 +50,7 @@ falls_then {p = p} {q = q} a b = record {
 }
 
 -- what takes a token behind another parser
-pub falls_last : {A B : Type 0} {f g : Nexts} {p : Parser A} {r : Rule A} {q : A → Parser B} → Law f g p r → ((x : A) → Falls (q x)) → Falls (p >>= q)
+pub falls_last : {A B : Type 0} {u : Bool} {f g : Nexts} {p : Parser A} {r : Rule A} {q : A → Parser B} → Law u f g p r → ((x : A) → Falls (q x)) → Falls (p >>= q)
 falls_last {p = p} {q = q} a b = record {
   by = λ i y j h.
       let o = both_ok (p i) q y j h in
@@ -87,7 +90,7 @@ abbrev pub all_added : {A B : Type 0} → (B → A → B) → B → List A → B
 all_added add found [] = found
 all_added add found (x ∷ xs) = all_added add (add found x) xs
 
-module _ {A B : Type 0} {first inner : Nexts} {p : Parser A} {r : Rule A} (add : B → A → B) (test follow : Nexts) (a : Law first inner p r) (falls : Falls p) (begins : within first test ≡ true) (stops : apart follow test ≡ true) (again : within first inner ≡ true) (last : within follow inner ≡ true) (ends : test next.End ≡ false) where
+module _ {A B : Type 0} {u : Bool} {first inner : Nexts} {p : Parser A} {r : Rule A} (add : B → A → B) (test follow : Nexts) (a : Law u first inner p r) (falls : Falls p) (begins : within first test ≡ true) (stops : apart follow test ≡ true) (again : within first inner ≡ true) (last : within follow inner ≡ true) (ends : test next.End ≡ false) where
   abbrev Added : B → Input → B → Input → Type 0
   Added found i y j = (xs : List A) × Many r j xs i × (all_added add found xs ≡ y)
 
@@ -151,8 +154,54 @@ module _ {A B : Type 0} {first inner : Nexts} {p : Parser A} {r : Rule A} (add :
   turn_falls : (x : B) (i : Input) (y : B) (j : Input) → adding add p x i ≡ read y j → length j.rest < length i.rest
   turn_falls x i y j h = (falls_map (λ z. add x z) falls).by i y j h
 
+  abbrev All : B → Rule B
+  All found = (λ xs. all_added add found xs) <$>ʳ many r
+
+  -- one item more in front
+  in_front : (found : B) (i : Input) (y : B) (j : Input) → (r >>=ʳ (λ x. All (add found x))) i y j → All found i y j
+  in_front found i y j d = let w = d.3 in (d.0 ∷ w.0, w.1, one_more d.0 w.0 i d.1 d.2 w.2, w.3)
+
+  ends_all : (found : B) → Ends (All found)
+  ends_all found = ends_then (many r) (λ xs. gives (all_added add found xs)) (ends_many r) (λ xs. ends_pure (all_added add found xs))
+
+  -- an item stops, or what follows it
+  turn_stops : (rest : B → Parser B) (found : B) (i : Input) (e : Failure) → ((z : B) → Stops (rest z) (All z)) → (o : Outcome A) → p i ≡ o → and_then (and_then o (λ x. pure (add found x))) rest ≡ stopped e → ((place e < length i.rest) × Front (All found) i (place e)) ⊎ (place e ≡ length i.rest)
+  turn_stops rest found i e ih (Err f) g h = stopped_first (stops_where p r a.settles a.recovers i e (g ∙ ap stopped (failure_is {A = B} f e h)))
+    where
+      stopped_first : ((place e < length i.rest) × Front r i (place e)) ⊎ (place e ≡ length i.rest) → ((place e < length i.rest) × Front (All found) i (place e)) ⊎ (place e ≡ length i.rest)
+      stopped_first (inl w) = inl (w.0, front_as (r >>=ʳ (λ x. All (add found x))) (All found) i (place e) (in_front found) (front_first r (λ x. All (add found x)) i (place e) w.1 (λ x. ends_all (add found x))))
+      stopped_first (inr w) = inr w
+  turn_stops rest found i e ih (Ok x) g h = stopped_second (ih (add found x.0) x.1 e h)
+    where
+      l : length x.1.rest < length i.rest
+      l = falls.by i x.0 x.1 g
+
+      taken : Taken r i x.0 x.1
+      taken = a.moves i x.0 x.1 (a.sound i x.0 x.1 g)
+
+      stopped_second : ((place e < length x.1.rest) × Front (All (add found x.0)) x.1 (place e)) ⊎ (place e ≡ length x.1.rest) → ((place e < length i.rest) × Front (All found) i (place e)) ⊎ (place e ≡ length i.rest)
+      stopped_second (inl w) = let k = w.0 in inl (omega (arith, k, l), front_as (r >>=ʳ (λ x. All (add found x))) (All found) i (place e) (in_front found) (front_second r (λ x. All (add found x)) i x.0 x.1 (place e) taken w.1 w.0))
+      stopped_second (inr w) = inl (omega (arith, w, l), front_as (r >>=ʳ (λ x. All (add found x))) (All found) i (place e) (in_front found) (front_between r (λ x. All (add found x)) i x.0 x.1 (place e) taken (ends_all (add found x.0) x.1) w))
+
+  loop_by : (rest : B → Parser B) (found : B) (i : Input) (e : Failure) → ((z : B) → Stops (rest z) (All z)) → (b : Bool) → (if b then (adding add p found >>= rest) i else read found i) ≡ stopped e → ((place e < length i.rest) × Front (All found) i (place e)) ⊎ (place e ≡ length i.rest)
+  loop_by rest found i e ih true h = turn_stops rest found i e ih (p i) refl h
+  loop_by rest found i e ih false h = absurd (let n : ⊥ = cc in n)
+
+  loop_stops : (n : ℕ) (found : B) → Stops (loop test (adding add p) n found) (All found)
+  unfolding loop
+  loop_stops zero found i e h = absurd (let n : ⊥ = cc in n)
+  loop_stops (suc n) found i e h = loop_by (loop test (adding add p) n) found i e (λ z. loop_stops n z) (test (next_token i)) h
+
+  loop_recovers : (found : B) → Recovers (repeated test (adding add p) found) (All found)
+  unfolding repeated left
+  loop_recovers found i e h l = front_of (loop_stops (length i.rest) found i e h)
+    where
+      front_of : ((place e < length i.rest) × Front (All found) i (place e)) ⊎ (place e ≡ length i.rest) → Front (All found) i (place e)
+      front_of (inl w) = w.1
+      front_of (inr w) = absurd (let n : ⊥ = omega (arith, w, l) in n)
+
   -- a list, each item of which is added to what was found
-  pub law_repeated : (found : B) → Law (either first follow) follow (repeated test (adding add p) found) ((λ xs. all_added add found xs) <$>ʳ many r)
+  pub law_repeated : (found : B) → Law true (either first follow) follow (repeated test (adding add p) found) ((λ xs. all_added add found xs) <$>ʳ many r)
   unfolding repeated left
   law_repeated found = record {
     sound = λ i y j h. let w = loop_sound (length i.rest) found i y j h in (w.0, j, w.1, (w.2, refl));
@@ -162,6 +211,9 @@ module _ {A B : Type 0} {first inner : Nexts} {p : Parser A} {r : Rule A} (add :
     begins = λ i y j d e. list_begins d.1 d.0 i d.2 (ap (λ m. follow (next_token m)) d.3.1 ∙ e);
     shrinks = λ i y j h. loop_shrinks (length i.rest) found i y j h;
     settles = settles_repeated test (adding add p) ends turn_falls (λ x. (law_map (λ y. add x y) a).settles) found;
+    moves = moves_then (many r) (λ xs. gives (all_added add found xs)) (λ i xs j d. moves_many r a.moves j xs i d) (λ xs. moves_pure (all_added add found xs));
+    recovers = loop_recovers found;
+    ends = λ e. ends_all found;
   }
 
 -- ---- items
@@ -180,28 +232,28 @@ pub lists_added : {A : Type 0} (found : List A) (lists : List (List A)) → all_
 lists_added found [] = sym (append-nil found)
 lists_added found (xs ∷ lists) = lists_added (found ++ xs) lists ∙ append_assoc found xs (joined lists)
 
-module _ {A : Type 0} {first inner : Nexts} {p : Parser A} {r : Rule A} (test follow : Nexts) (a : Law first inner p r) (falls : Falls p) (begins : within first test ≡ true) (stops : apart follow test ≡ true) (again : within first inner ≡ true) (last : within follow inner ≡ true) (ends : test next.End ≡ false) where
-  pub law_many_from : (found : List A) → Law (either first follow) follow (repeated test (and_one p) found) ((λ xs. found ++ xs) <$>ʳ many r)
+module _ {A : Type 0} {u : Bool} {first inner : Nexts} {p : Parser A} {r : Rule A} (test follow : Nexts) (a : Law u first inner p r) (falls : Falls p) (begins : within first test ≡ true) (stops : apart follow test ≡ true) (again : within first inner ≡ true) (last : within follow inner ≡ true) (ends : test next.End ≡ false) where
+  pub law_many_from : (found : List A) → Law true (either first follow) follow (repeated test (and_one p) found) ((λ xs. found ++ xs) <$>ʳ many r)
   law_many_from found = law_as (same_value _ _ (ones_added found)) (law_repeated one_at_the_end test follow a falls begins stops again last ends found)
 
-  pub law_many : Law (either first follow) follow (repeated test (and_one p) []) (many r)
+  pub law_many : Law true (either first follow) follow (repeated test (and_one p) []) (many r)
   law_many = law_as same_itself (law_many_from [])
 
-module _ {A : Type 0} {first inner : Nexts} {p : Parser (List A)} {r : Rule (List A)} (test follow : Nexts) (a : Law first inner p r) (falls : Falls p) (begins : within first test ≡ true) (stops : apart follow test ≡ true) (again : within first inner ≡ true) (last : within follow inner ≡ true) (ends : test next.End ≡ false) where
-  pub law_many_lists : Law (either first follow) follow (repeated test (and_all p) []) (many_lists r)
+module _ {A : Type 0} {u : Bool} {first inner : Nexts} {p : Parser (List A)} {r : Rule (List A)} (test follow : Nexts) (a : Law u first inner p r) (falls : Falls p) (begins : within first test ≡ true) (stops : apart follow test ≡ true) (again : within first inner ≡ true) (last : within follow inner ≡ true) (ends : test next.End ≡ false) where
+  pub law_many_lists : Law true (either first follow) follow (repeated test (and_all p) []) (many_lists r)
   law_many_lists = law_as (same_value _ _ (lists_added [])) (law_repeated all_at_the_end test follow a falls begins stops again last ends [])
 
 -- ---- separators
 
-module _ {A : Type 0} {first inner : Nexts} {p : Parser A} {r : Rule A} (k : TokenKind) (o : IsOnly k) (a : Law first inner p r) where
+module _ {A : Type 0} {first inner : Nexts} {p : Parser A} {r : Rule A} (k : TokenKind) (o : IsOnly k) (a : Law true first inner p r) where
   -- a separator and an item
-  pub law_further : Law (is (class_of k)) inner (expect (class_of k) >> p) (token k >>ʳ r)
+  pub law_further : Law (no_else k) (is (class_of k)) inner (expect (class_of k) >> p) (token k >>ʳ r)
   law_further = law_then (law_expect k o) (within_any first) (λ at. a)
 
   pub falls_further : Falls (expect (class_of k) >> p)
   falls_further = falls_then (falls_expect k o) (λ at. a)
 
-module _ {A : Type 0} {first inner : Nexts} {p : Parser A} {r : Rule A} (k : TokenKind) (o : IsOnly k) (follow : Nexts) (a : Law first inner p r) (stops : apart follow (is (class_of k)) ≡ true) (again : within (is (class_of k)) inner ≡ true) (last : within follow inner ≡ true) where
-  pub law_separated : Law first follow (separated (class_of k) p) (rule.separated (token k) r)
+module _ {A : Type 0} {first inner : Nexts} {p : Parser A} {r : Rule A} (k : TokenKind) (o : IsOnly k) (follow : Nexts) (a : Law true first inner p r) (stops : apart follow (is (class_of k)) ≡ true) (again : within (is (class_of k)) inner ≡ true) (last : within follow inner ≡ true) where
+  pub law_separated : Law true first follow (separated (class_of k) p) (rule.separated (token k) r)
   law_separated = law_then a (within_both (is (class_of k)) follow inner again last) (λ x.
       law_many_from (is (class_of k)) follow (law_further k o a) (falls_further k o a) (within_itself (is (class_of k))) stops again last (not_end k o) (x ∷ []))

@@ -1,5 +1,5 @@
 -- The law of lists whose items have separators between them, and that may end with one more.
-use Rattle.std.proofs.Common.{◌≡◌, inl, inr, ℕ, zero, suc, ◌<◌, ◌≤◌, Bool, true, false, List, [], ◌∷◌, ◌++◌, length, Option, Some, None, refl, sym, ap, ◌∙◌, subst, append_assoc, arith}
+use Rattle.std.proofs.Common.{◌≡◌, ◌⊎◌, inl, inr, Ok, Err, ℕ, zero, suc, ◌<◌, ◌≤◌, Bool, true, false, List, [], ◌∷◌, ◌++◌, length, Option, Some, None, refl, sym, ap, ◌∙◌, subst, append_assoc, arith}
 use Rattle.std.proofs.lemmas.List.{append-nil}
 use Rattle.std.specs.Prelude.{if◌then◌else◌}
 use Rattle.mp_ast.specs.declared.tokens.TokenKind.{TokenKind}
@@ -8,14 +8,17 @@ use Rattle.mp_ast.specs.Rules.{◌>>=◌ as ◌>>=ʳ◌, ◌>>◌ as ◌>>ʳ◌,
 use Rattle.mp_ast.specs.Rules as rule
 use Rattle.mp_cursor.specs.declared.next.Next.{Next}
 use Rattle.mp_cursor.specs.Nexts.{Nexts}
-use Rattle.mp_cursor.specs.Parsers.{Parser, and_then, ◌>>=◌, ◌>>◌, pure, next_token, branch, series, repeated_series, separated_series, and_one, expect, left}
+use Rattle.mp_cursor.specs.Parsers.{Outcome, Parser, and_then, ◌>>=◌, ◌>>◌, pure, next_token, branch, series, repeated_series, separated_series, and_one, expect, left}
 use Rattle.mp_cursor.specs.Nexts.{is, class_of}
 use Rattle.mp_cursor.proofs.NextSets.{within, apart, within_is, apart_is, in_first, in_second, within_both}
 use Rattle.mp_cursor.specs.Nexts.{either}
 use Rattle.mp_cursor.proofs.Settled.{settles_series}
-use Rattle.mp_cursor.proofs.Laws.{not_end, law_map, Law, Same, read, read_is, both_ok, law_then, law_as, law_expect, IsOnly, token_falls}
+use Rattle.mp_cursor.specs.declared.failure.Failure.{Failure}
+use Rattle.mp_cursor.proofs.Settled.{place, stopped, put}
+use Rattle.mp_cursor.proofs.Recovery.{failure_is, open_instead, Moves, Taken, Ends, Front, Stops, stops_where, front_as, front_first, front_second, front_between, moves_then, moves_or, moves_pure, moves_many, moves_token}
+use Rattle.mp_cursor.proofs.Laws.{expect_first, not_end, law_map, Law, Same, read, read_is, both_ok, law_then, law_as, law_expect, IsOnly, token_falls}
 
-module _ {A : Type 0} {first inner : Nexts} {p : Parser A} {r : Rule A} (k : TokenKind) (o : IsOnly k) (test follow : Nexts) (a : Law first inner p r) (begins : within first test ≡ true) (stops : apart follow (is (class_of k)) ≡ true) (ends : apart follow test ≡ true) (again : within (is (class_of k)) inner ≡ true) (last : within follow inner ≡ true) where
+module _ {A : Type 0} {u : Bool} {first inner : Nexts} {p : Parser A} {r : Rule A} (k : TokenKind) (o : IsOnly k) (test follow : Nexts) (a : Law u first inner p r) (begins : within first test ≡ true) (stops : apart follow (is (class_of k)) ≡ true) (ends : apart follow test ≡ true) (again : within (is (class_of k)) inner ≡ true) (last : within follow inner ≡ true) where
   abbrev n : Next
   n = class_of k
 
@@ -145,7 +148,93 @@ module _ {A : Type 0} {first inner : Nexts} {p : Parser A} {r : Rule A} (k : Tok
   one_shrinks : (x : List A) (i : Input) (y : List A) (j : Input) → and_one p x i ≡ read y j → length j.rest ≤ length i.rest
   one_shrinks x i y j h = (law_map (λ z. x ++ z ∷ []) a).shrinks i y j h
 
-  law_tail : (found : List A) → Law (either (is n) follow) follow (repeated_series n test (and_one p) found) ((λ xs. found ++ xs) <$>ʳ tail)
+  -- ---- where the parser stops
+
+  abbrev All : List A → Rule (List A)
+  All found = (λ xs. found ++ xs) <$>ʳ tail
+
+  moves_last : (xs : List A) → Moves (optional (token k) >>ʳ gives xs)
+  moves_last xs = moves_then (optional (token k)) (λ z. gives xs) (moves_or (Some <$>ʳ token k) (gives None) (moves_then (token k) (λ at. gives (Some at)) (moves_token k) (λ at. moves_pure (Some at))) (moves_pure None)) (λ z. moves_pure xs)
+
+  moves_all : (found : List A) → Moves (All found)
+  moves_all found = moves_then tail (λ xs. gives (found ++ xs))
+      (moves_then (many (token k >>ʳ r)) (λ xs. optional (token k) >>ʳ gives xs)
+      (λ i xs j d. moves_many (token k >>ʳ r) (moves_then (token k) (λ at. r) (moves_token k) (λ at. a.moves)) j xs i d) moves_last)
+      (λ xs. moves_pure (found ++ xs))
+
+  ends_all : (found : List A) → Ends (All found)
+  ends_all found i = ([], found ++ [], i, λ t h. h, λ t h. ([], put i t, tail_end (put i t), (refl, refl)))
+
+  -- one item more in front
+  in_front : (found : List A) (i : Input) (ys : List A) (j : Input) → ((token k >>ʳ r) >>=ʳ (λ x. All (found ++ x ∷ []))) i ys j → All found i ys j
+  in_front found i ys j d =
+      let c = d.2 in
+      let t = d.3 in
+      (d.0 ∷ t.0, t.1, tail_more i c.0 c.1 d.0 d.1 t.0 t.1 c.2 c.3 t.2, (sym (append_assoc found (d.0 ∷ []) t.0) ∙ t.3.0, t.3.1))
+
+  -- behind a separator the list may be over
+  after_separator : (found : List A) (i : Input) (at : ℕ) (m : Input) → token k i at m → Front (All found) i (length m.rest)
+  after_separator found i at m d =
+      let w = moves_token k i at m d in
+      (w.0, m.rest, [], found ++ [], m, w.1, refl, λ t h. ([], put m t, tail_separator (put i (w.0 ++ t)) at (put m t) (w.2 t (open_instead t m.rest h)), (refl, refl)))
+
+  abbrev Inside : List A → Input → Failure → Type 0
+  Inside found i e = ((place e < length i.rest) × Front (All found) i (place e)) ⊎ (place e ≡ length i.rest)
+
+  item_stops : (rest : List A → Parser (List A)) (found : List A) (i : Input) (at : ℕ) (m : Input) (e : Failure) → token k i at m → ((z : List A) → Stops (rest z) (All z)) → (o : Outcome A) → p m ≡ o → and_then (and_then o (λ x. pure (found ++ x ∷ []))) rest ≡ stopped e → Inside found i e
+  item_stops more found i at m e d ih (Err f) g h = first_stops (stops_where p r a.settles a.recovers m e (g ∙ ap stopped (failure_is {A = List A} f e h)))
+    where
+      l : length m.rest < length i.rest
+      l = token_falls k i at m d
+
+      first_stops : ((place e < length m.rest) × Front r m (place e)) ⊎ (place e ≡ length m.rest) → Inside found i e
+      first_stops (inl w) =
+          let v = w.0 in
+          inl (omega (arith, v, l), front_as ((token k >>ʳ r) >>=ʳ (λ x. All (found ++ x ∷ []))) (All found) i (place e) (in_front found)
+          (front_first (token k >>ʳ r) (λ x. All (found ++ x ∷ [])) i (place e) (front_second (token k) (λ at. r) i at m (place e) (moves_token k i at m d) w.1 w.0) (λ x. ends_all (found ++ x ∷ []))))
+      first_stops (inr w) = inl (omega (arith, w, l), subst (Front (All found) i) (sym w) (after_separator found i at m d))
+  item_stops more found i at m e d ih (Ok x) g h = second_stops (ih (found ++ x.0 ∷ []) x.1 e h)
+    where
+      l : length m.rest < length i.rest
+      l = token_falls k i at m d
+
+      n_ : length x.1.rest ≤ length m.rest
+      n_ = a.shrinks m x.0 x.1 g
+
+      taken : Taken (token k >>ʳ r) i x.0 x.1
+      taken = moves_then (token k) (λ at. r) (moves_token k) (λ at. a.moves) i x.0 x.1 (at, m, d, a.sound m x.0 x.1 g)
+
+      second_stops : ((place e < length x.1.rest) × Front (All (found ++ x.0 ∷ [])) x.1 (place e)) ⊎ (place e ≡ length x.1.rest) → Inside found i e
+      second_stops (inl w) =
+          let v = w.0 in
+          inl (omega (arith, v, l, n_), front_as ((token k >>ʳ r) >>=ʳ (λ x. All (found ++ x ∷ []))) (All found) i (place e) (in_front found)
+          (front_second (token k >>ʳ r) (λ x. All (found ++ x ∷ [])) i x.0 x.1 (place e) taken w.1 w.0))
+      second_stops (inr w) =
+          inl (omega (arith, w, l, n_), front_as ((token k >>ʳ r) >>=ʳ (λ x. All (found ++ x ∷ []))) (All found) i (place e) (in_front found)
+          (front_between (token k >>ʳ r) (λ x. All (found ++ x ∷ [])) i x.0 x.1 (place e) taken (ends_all (found ++ x.0 ∷ []) x.1) w))
+
+  behind_stops : (more : List A → Parser (List A)) (found : List A) (i : Input) (at : ℕ) (m : Input) (e : Failure) → token k i at m → ((z : List A) → Stops (more z) (All z)) → (b : Bool) → (if b then (and_one p found >>= more) m else read found m) ≡ stopped e → Inside found i e
+  behind_stops more found i at m e d ih true h = item_stops more found i at m e d ih (p m) refl h
+  behind_stops more found i at m e d ih false h = absurd (let z : ⊥ = cc in z)
+
+  separator_stops : (more : List A → Parser (List A)) (found : List A) (i : Input) (e : Failure) → ((z : List A) → Stops (more z) (All z)) → (o : Outcome ℕ) → expect n i ≡ o → and_then o (λ at. branch test (and_one p found >>= more) (pure found)) ≡ stopped e → Inside found i e
+  separator_stops more found i e ih (Ok x) g h = behind_stops more found i x.0 x.1 e ((law_expect k o).sound i x.0 x.1 g) ih (test (next_token x.1)) h
+  separator_stops more found i e ih (Err f) g h = inr (expect_first k i e (g ∙ ap stopped (failure_is {A = List A} f e h)))
+
+  turn_stops : (more : List A → Parser (List A)) (found : List A) (i : Input) (e : Failure) → ((z : List A) → Stops (more z) (All z)) → (b : Bool) → (if b then (expect n >> branch test (and_one p found >>= more) (pure found)) i else read found i) ≡ stopped e → Inside found i e
+  turn_stops more found i e ih true h = separator_stops more found i e ih (expect n i) refl h
+  turn_stops more found i e ih false h = absurd (let z : ⊥ = cc in z)
+
+  series_stops : (count : ℕ) (found : List A) → Stops (rest count found) (All found)
+  unfolding series
+  series_stops zero found i e h = absurd (let z : ⊥ = cc in z)
+  series_stops (suc count) found i e h = turn_stops (rest count) found i e (λ z. series_stops count z) (is n (next_token i)) h
+
+  front_of : (found : List A) (i : Input) (e : Failure) → place e < length i.rest → Inside found i e → Front (All found) i (place e)
+  front_of found i e l (inl w) = w.1
+  front_of found i e l (inr w) = absurd (let z : ⊥ = omega (arith, w, l) in z)
+
+  law_tail : (found : List A) → Law true (either (is n) follow) follow (repeated_series n test (and_one p) found) ((λ xs. found ++ xs) <$>ʳ tail)
   unfolding repeated_series left
   law_tail found = record {
     sound = λ i ys j h. let w = series_sound (length i.rest) found i ys j h in (w.0, j, w.1, (w.2, refl));
@@ -160,6 +249,9 @@ module _ {A : Type 0} {first inner : Nexts} {p : Parser A} {r : Rule A} (k : Tok
         tail_begins t.1 j (last_of t.1 t.3.0 t.3.1 t.3.2 v) t.0 i t.2;
     shrinks = λ i ys j h. series_shrinks (length i.rest) found i ys j h;
     settles = settles_series n test (and_one p) (not_end k o) expect_falls one_shrinks (λ x. (law_map (λ y. x ++ y ∷ []) a).settles) found;
+    moves = moves_all found;
+    recovers = λ i e h l. front_of found i e l (series_stops (length i.rest) found i e h);
+    ends = λ e. ends_all found;
   }
 
   regrouped : Same (r >>=ʳ (λ x. (λ xs. (x ∷ []) ++ xs) <$>ʳ tail)) (rule.separated (token k) r >>=ʳ (λ xs. optional (token k) >>ʳ gives xs))
@@ -174,5 +266,5 @@ module _ {A : Type 0} {first inner : Nexts} {p : Parser A} {r : Rule A} (k : Tok
   }
 
   -- items with separators, and one more separator that may follow
-  pub law_series : Law first follow (separated_series n test p) (rule.separated (token k) r >>=ʳ (λ xs. optional (token k) >>ʳ gives xs))
+  pub law_series : Law u first follow (separated_series n test p) (rule.separated (token k) r >>=ʳ (λ xs. optional (token k) >>ʳ gives xs))
   law_series = law_as regrouped (law_then a (within_both (is n) follow inner again last) (λ x. law_tail (x ∷ [])))
