@@ -49,6 +49,11 @@ falls_then {p = p} {q = q} a b = record {
       omega arith;
 }
 
+-- an opener and what stands behind it
+pub falls_opened : {B : Type 0} {u : Bool} {f h : Nexts} {q : ℕ → Parser B} {s : ℕ → Rule B} (k : TokenKind) → IsOnly k → (room : ℕ) → ((n : ℕ) → room ≡ suc n → (at : ℕ) → Law u f h (q at) (s at)) → Falls (opening room (class_of k) >>= q)
+falls_opened {q = q} k o zero a = record { by = λ i x j e. let w = both_ok (opening zero (class_of k) i) q x j e in absurd ((law_opening k o zero).sound i w.0 w.1 w.2) }
+falls_opened k o (suc room) a = falls_then (falls_opening (suc room) k o) (a room refl)
+
 -- what takes a token behind another parser
 pub falls_last : {A B : Type 0} {u : Bool} {f g : Nexts} {p : Parser A} {r : Rule A} {q : A → Parser B} → Law u f g p r → ((x : A) → Falls (q x)) → Falls (p >>= q)
 falls_last {p = p} {q = q} a b = record {
