@@ -13,7 +13,8 @@ use Rattle.mp_cursor.specs.Nexts.{Nexts, next_of, is, either}
 use Rattle.mp_cursor.specs.Parsers.{Parser, ◌>>◌, ◌<$>◌, pure, next_token, expect}
 use Rattle.mp_cursor.proofs.NextLemmas.{is_same}
 use Rattle.mp_cursor.proofs.NextSets.{within_any, in_first, in_second}
-use Rattle.mp_cursor.proofs.Settled.{settles_branch, settles_pure}
+use Rattle.mp_cursor.proofs.Recovery.{is_else, Moves, Ends, moves_or, ends_right, recovers_branch}
+use Rattle.mp_cursor.proofs.Settled.{put, settles_branch, settles_pure}
 use Rattle.mp_cursor.proofs.Laws.{Law, read, read_is, law_then, law_map, law_word, word_only}
 use Rattle.mp_parse_stmt.specs.Statements as p
 
@@ -34,11 +35,29 @@ no_else : (i : Input) → is (Word w.Else) (next_token i) ≡ false → NoElse i
 unfolding next_token
 no_else i e = λ ks q. let t : is (Word w.Else) (next_of i.rest) ≡ true = ap (λ l. is (Word w.Else) (next_of l)) q in let f = sym e ∙ t in let n : ⊥ = cc in n
 
-module _ {begins : Nexts} {statement : Parser Statement} {r : Rule Statement} (follow : Nexts) (a : Law begins follow statement r) where
+-- what stands in place of no `else` is none
+open_by : (b : Bool) → (b ≡ true → false ≡ true) → b ≡ false
+open_by true h = sym (h refl)
+open_by false h = refl
+
+abbrev left_out : Rule (Option Statement)
+left_out = rule.◌>>◌ (rule.not_before (kind.Word w.Else)) (rule.gives None)
+
+moves_left_out : Moves left_out
+unfolding next_token
+moves_left_out i x j d =
+    let e = ap (λ m. m.rest) (d.2.1 ∙ d.3.1) in
+    ([], e, λ t h. (tt, put i t, (no_else (put i t) (open_by (is_else t) (λ u. sym (is_no_else i d.2.0 ∙ refl) ∙ ap is_else e ∙ h u)), refl), (d.3.0, ap (λ m. put m t) (d.2.1 ∙ d.3.1))))
+
+ends_left_out : Ends left_out
+unfolding next_token
+ends_left_out i = ([], None, i, λ t o. o, λ t o. (tt, put i t, (no_else (put i t) o, refl), (refl, refl)))
+
+module _ {begins : Nexts} {statement : Parser Statement} {r : Rule Statement} (follow : Nexts) (a : Law true begins follow statement r) where
   abbrev taken : Parser (Option Statement)
   taken = Some <$> (expect (Word w.Else) >> statement)
 
-  law_taken : Law (is (Word w.Else)) follow taken (rule.◌<$>◌ Some (rule.◌>>◌ (rule.word w.Else) r))
+  law_taken : Law false (is (Word w.Else)) follow taken (rule.◌<$>◌ Some (rule.◌>>◌ (rule.word w.Else) r))
   law_taken = law_map Some (law_then (law_word w.Else) (within_any begins) (λ at. a))
 
   allowed : (i : Input) (x : Option Statement) (j : Input) (b : Bool) → is (Word w.Else) (next_token i) ≡ b → (if b then taken i else read None i) ≡ read x j → g.else_part r i x j
@@ -60,7 +79,7 @@ module _ {begins : Nexts} {statement : Parser Statement} {r : Rule Statement} (f
   shrinks_by i x j true h = law_taken.shrinks i x j h
   shrinks_by i x j false h = let e = ap (λ m. length m.rest) (read_is None x i j h).1 in omega arith
 
-  pub law_else_part : Law (either (is (Word w.Else)) follow) follow (p.else_part statement) (g.else_part r)
+  pub law_else_part : Law true (either (is (Word w.Else)) follow) follow (p.else_part statement) (g.else_part r)
   unfolding p.else_part
   law_else_part = record {
     sound = λ i x j h. allowed i x j (is (Word w.Else) (next_token i)) refl h;
@@ -68,4 +87,7 @@ module _ {begins : Nexts} {statement : Parser Statement} {r : Rule Statement} (f
     begins = begun;
     shrinks = λ i x j h. shrinks_by i x j (is (Word w.Else) (next_token i)) h;
     settles = settles_branch taken (pure None) (is (Word w.Else)) law_taken.settles (settles_pure None);
+    moves = moves_or (rule.◌<$>◌ Some (rule.◌>>◌ (rule.word w.Else) r)) left_out law_taken.moves moves_left_out;
+    recovers = recovers_branch (is (Word w.Else)) taken (pure None) (rule.◌<$>◌ Some (rule.◌>>◌ (rule.word w.Else) r)) left_out law_taken.recovers (λ i e h l. absurd (let n : ⊥ = cc in n));
+    ends = λ e. ends_right (rule.◌<$>◌ Some (rule.◌>>◌ (rule.word w.Else) r)) left_out ends_left_out;
   }

@@ -1,5 +1,5 @@
 -- The laws of statements: the parser reads exactly what the grammar allows.
-use Rattle.std.proofs.Common.{ℕ, zero, suc, [], ◌∷◌, refl}
+use Rattle.std.proofs.Common.{◌≡◌, true, ℕ, zero, suc, [], ◌∷◌, refl}
 use Rattle.mp_ast.specs.declared.tokens.TokenKind.TheVariants as kind
 use Rattle.mp_ast.specs.declared.words.WordSymbol.TheVariants as w
 use Rattle.mp_ast.specs.declared.symbols.Symbol.TheVariants as s
@@ -17,7 +17,7 @@ use Rattle.mp_cursor.specs.Parsers.{Parser, ◌<$>◌, here}
 use Rattle.mp_cursor.proofs.NextSets.{within_any, within_itself}
 use Rattle.mp_cursor.proofs.Laws.{Law, law_pure, law_then, law_map, law_followed, law_begun, law_as, law_here, law_word, law_symbol, law_never, symbol_only}
 use Rattle.mp_cursor.proofs.SameRules.{same_refl, same_sym, same_trans, same_or, or_swapped, then_grouped, factored, behind_list}
-use Rattle.mp_cursor.proofs.LeafLaws.{law_identifier, law_number, law_opening_word}
+use Rattle.mp_cursor.proofs.LeafLaws.{law_identifier, law_number, has_room, law_opened_word}
 use Rattle.mp_cursor.proofs.ChoiceLaws.{law_branch}
 use Rattle.mp_cursor.proofs.ListLaws.{law_separated}
 use Rattle.mp_cursor.proofs.SeriesLaws.{law_series}
@@ -47,7 +47,7 @@ after_sequence = among (Word w.End ∷ Word w.Until ∷ [])
 -- ---- simple statements
 
 module _ (room : ℕ) where
-  law_assignment_behind : (name : Identifier) → Law p.assigning after_statement (p.assignment_behind room name)
+  law_assignment_behind : (name : Identifier) → Law true p.assigning after_statement (p.assignment_behind room name)
       (rule.◌>>=◌ (access_behind_rule_at room name) (λ variable. rule.◌>>=◌ (rule.symbol s.Assign) (λ at. rule.◌>>=◌ (e.expression room) (λ value. rule.gives (t.Assign variable at value)))))
   unfolding p.assignment_behind
   law_assignment_behind name =
@@ -57,20 +57,20 @@ module _ (room : ℕ) where
       law_then (law_followed after_statement refl (law_expression room)) (within_itself after_statement) (λ value.
       law_pure _ after_statement))))
 
-  law_call_behind : (name : Identifier) → Law (either (is (Symbol s.LeftParen)) after_statement) after_statement (p.call_behind room name)
+  law_call_behind : (name : Identifier) → Law true (either (is (Symbol s.LeftParen)) after_statement) after_statement (p.call_behind room name)
       (rule.◌>>=◌ (rule.◌<|>◌ (e.actuals room) (rule.gives [])) (λ given. rule.gives (t.Call name given)))
   law_call_behind name =
       law_map (t.Call name)
       (law_branch (is (Symbol s.LeftParen)) (law_followed after_statement (within_any after_statement) (law_actuals room)) refl refl (law_pure [] after_statement))
 
-  law_named : (r : g.Deeper) → Law (is next.Identifier) after_statement (p.named room) (rule.◌<|>◌ (g.assignment room r) (g.procedure_call room r))
+  law_named : (r : g.Deeper) → Law true (is next.Identifier) after_statement (p.named room) (rule.◌<|>◌ (g.assignment room r) (g.procedure_call room r))
   unfolding p.named
   law_named r =
       law_as (same_trans (factored _ _ _) (same_or (same_sym (then_grouped _ _ _)) (same_refl _)))
       (law_then law_identifier (within_any (either p.assigning (either (is (Symbol s.LeftParen)) after_statement))) (λ name.
       law_branch p.assigning (law_assignment_behind name) refl refl (law_call_behind name)))
 
-  law_goto : (r : g.Deeper) → Law (is (Word w.Goto)) any p.goto_statement (g.goto_statement room r)
+  law_goto : (r : g.Deeper) → Law true (is (Word w.Goto)) any p.goto_statement (g.goto_statement room r)
   unfolding p.goto_statement
   law_goto r = law_then (law_word w.Goto) (within_any (is next.Number)) (λ at. law_then law_number refl (λ label. law_pure _ any))
 
@@ -79,7 +79,7 @@ module _ (room : ℕ) where
 abbrev directing : Nexts
 directing = among (Word w.To ∷ Word w.Downto ∷ [])
 
-law_direction : Law directing any p.direction (rule.◌<|>◌ g.upward g.downward)
+law_direction : Law true directing any p.direction (rule.◌<|>◌ g.upward g.downward)
 unfolding p.direction
 law_direction =
     law_begun directing refl
@@ -87,18 +87,18 @@ law_direction =
 
 -- ---- sequences
 
-pub law_sequence_of : {statement : Parser Statement} {r : Rule Statement} → Law statement_begins after_statement statement r → Law statement_begins after_sequence (p.sequence statement) (g.sequence r)
+pub law_sequence_of : {statement : Parser Statement} {r : Rule Statement} → Law true statement_begins after_statement statement r → Law true statement_begins after_sequence (p.sequence statement) (g.sequence r)
 unfolding p.sequence p.further_statement
 law_sequence_of a = law_separated (kind.Symbol s.Semicolon) (symbol_only s.Semicolon) after_sequence a refl refl refl
 
 -- the laws of what stands behind one more opener
 pub record BehindLaws (d : p.Deeper) (r : g.Deeper) : Type 0 where
-  pub expression : Law expression_begins after_expression d.expression r.expression
-  pub access : Law (is next.Identifier) after_access d.access r.access
-  pub statement : Law statement_begins after_statement d.statement r.statement
+  pub expression : Law true expression_begins after_expression d.expression r.expression
+  pub access : Law true (is next.Identifier) after_access d.access r.access
+  pub statement : Law true statement_begins after_statement d.statement r.statement
 
 module _ (room : ℕ) (d : p.Deeper) (r : g.Deeper) (behind : BehindLaws d r) where
-  law_for_head : Law (is next.Identifier) after_expression (p.for_head d.expression) (g.for_head r.expression)
+  law_for_head : Law true (is next.Identifier) after_expression (p.for_head d.expression) (g.for_head r.expression)
   unfolding p.for_head
   law_for_head =
       law_then law_identifier (within_any (is (Symbol s.Assign))) (λ variable.
@@ -108,13 +108,13 @@ module _ (room : ℕ) (d : p.Deeper) (r : g.Deeper) (behind : BehindLaws d r) wh
       law_then behind.expression (within_itself after_expression) (λ last.
       law_pure _ after_expression)))))
 
-  law_records : Law (is next.Identifier) (is (Word w.Do)) (p.records d.access) (rule.separated (rule.symbol s.Comma) r.access)
+  law_records : Law true (is next.Identifier) (is (Word w.Do)) (p.records d.access) (rule.separated (rule.symbol s.Comma) r.access)
   unfolding p.records p.further_record
   law_records = law_separated (kind.Symbol s.Comma) (symbol_only s.Comma) (is (Word w.Do)) behind.access refl refl refl
 
   -- ---- what has statements in it
 
-  law_arm : Law p.arm_begins after_statement (p.arm d.statement) (g.arm r.statement)
+  law_arm : Law true p.arm_begins after_statement (p.arm d.statement) (g.arm r.statement)
   unfolding p.arm
   law_arm =
       law_then law_constants refl (λ constants.
@@ -122,82 +122,83 @@ module _ (room : ℕ) (d : p.Deeper) (r : g.Deeper) (behind : BehindLaws d r) wh
       law_then behind.statement (within_itself after_statement) (λ body.
       law_pure _ after_statement)))
 
-  law_arms : Law p.arm_begins (is (Word w.End)) (p.arms d.statement)
+  law_arms : Law true p.arm_begins (is (Word w.End)) (p.arms d.statement)
       (rule.◌>>=◌ (rule.separated (rule.symbol s.Semicolon) (g.arm r.statement)) (λ arms. rule.◌>>◌ (rule.optional (rule.symbol s.Semicolon)) (rule.gives arms)))
   unfolding p.arms p.further_arm
   law_arms = law_series (kind.Symbol s.Semicolon) (symbol_only s.Semicolon) p.arm_begins (is (Word w.End)) law_arm (within_itself p.arm_begins) refl refl refl refl
 
+module _ (room : ℕ) (d : p.Deeper) (r : g.Deeper) (behind : (n : ℕ) → room ≡ suc n → BehindLaws d r) where
   -- ---- structured statements
 
-  law_compound : Law (is (Word w.Begin)) any (p.compound_statement room d) (g.compound_statement room r)
+  law_compound : Law (has_room room) (is (Word w.Begin)) any (p.compound_statement room d) (g.compound_statement room r)
   unfolding p.compound_statement
   law_compound =
-      law_then (law_opening_word room w.Begin) (within_any statement_begins) (λ at.
-      law_then (law_sequence_of behind.statement) refl (λ statements.
+      law_opened_word w.Begin refl room (λ n e at.
+      law_then (law_sequence_of (behind n e).statement) refl (λ statements.
       law_then (law_word w.End) refl (λ z. law_pure _ any)))
 
-  law_if : Law (is (Word w.If)) after_statement (p.if_statement room d) (g.if_statement room r)
+  law_if : Law (has_room room) (is (Word w.If)) after_statement (p.if_statement room d) (g.if_statement room r)
   unfolding p.if_statement
   law_if =
-      law_then (law_opening_word room w.If) (within_any expression_begins) (λ at.
-      law_then behind.expression refl (λ condition.
+      law_opened_word w.If refl room (λ n e at.
+      law_then (behind n e).expression refl (λ condition.
       law_then (law_word w.Then) (within_any statement_begins) (λ z.
-      law_then behind.statement refl (λ first.
-      law_then (law_else_part after_statement behind.statement) (within_itself after_statement) (λ second.
+      law_then (behind n e).statement refl (λ first.
+      law_then (law_else_part after_statement (behind n e).statement) (within_itself after_statement) (λ second.
       law_pure _ after_statement)))))
 
-  law_case : Law (is (Word w.Case)) any (p.case_statement room d) (g.case_statement room r)
+  law_case : Law (has_room room) (is (Word w.Case)) any (p.case_statement room d) (g.case_statement room r)
   unfolding p.case_statement
   law_case =
-      law_then (law_opening_word room w.Case) (within_any expression_begins) (λ at.
-      law_then behind.expression refl (λ index.
+      law_opened_word w.Case refl room (λ n e at.
+      law_then (behind n e).expression refl (λ index.
       law_then (law_word w.Of) (within_any p.arm_begins) (λ z.
-      law_as (behind_list _ _ _) (law_then law_arms refl (λ arms.
+      law_as (behind_list _ _ _) (law_then (law_arms room d r (behind n e)) refl (λ arms.
       law_then (law_word w.End) refl (λ z. law_pure _ any))))))
 
-  law_while : Law (is (Word w.While)) after_statement (p.while_statement room d) (g.while_statement room r)
+  law_while : Law (has_room room) (is (Word w.While)) after_statement (p.while_statement room d) (g.while_statement room r)
   unfolding p.while_statement
   law_while =
-      law_then (law_opening_word room w.While) (within_any expression_begins) (λ at.
-      law_then behind.expression refl (λ condition.
+      law_opened_word w.While refl room (λ n e at.
+      law_then (behind n e).expression refl (λ condition.
       law_then (law_word w.Do) (within_any statement_begins) (λ z.
-      law_then behind.statement (within_itself after_statement) (λ body.
+      law_then (behind n e).statement (within_itself after_statement) (λ body.
       law_pure _ after_statement))))
 
-  law_repeat : Law (is (Word w.Repeat)) after_statement (p.repeat_statement room d) (g.repeat_statement room r)
+  law_repeat : Law (has_room room) (is (Word w.Repeat)) after_statement (p.repeat_statement room d) (g.repeat_statement room r)
   unfolding p.repeat_statement
   law_repeat =
-      law_then (law_opening_word room w.Repeat) (within_any statement_begins) (λ at.
-      law_then (law_sequence_of behind.statement) refl (λ statements.
+      law_opened_word w.Repeat refl room (λ n e at.
+      law_then (law_sequence_of (behind n e).statement) refl (λ statements.
       law_then (law_word w.Until) (within_any expression_begins) (λ z.
-      law_then (law_followed after_statement refl behind.expression) (within_itself after_statement) (λ condition.
+      law_then (law_followed after_statement refl (behind n e).expression) (within_itself after_statement) (λ condition.
       law_pure _ after_statement))))
 
-  law_for : Law (is (Word w.For)) after_statement (p.for_statement room d) (g.for_statement room r)
+  law_for : Law (has_room room) (is (Word w.For)) after_statement (p.for_statement room d) (g.for_statement room r)
   unfolding p.for_statement
   law_for =
-      law_then (law_opening_word room w.For) (within_any (is next.Identifier)) (λ at.
-      law_then law_for_head refl (λ head.
+      law_opened_word w.For refl room (λ n e at.
+      law_then (law_for_head room d r (behind n e)) refl (λ head.
       law_then (law_word w.Do) (within_any statement_begins) (λ z.
-      law_then behind.statement (within_itself after_statement) (λ body.
+      law_then (behind n e).statement (within_itself after_statement) (λ body.
       law_pure _ after_statement))))
 
-  law_with : Law (is (Word w.With)) after_statement (p.with_statement room d) (g.with_statement room r)
+  law_with : Law (has_room room) (is (Word w.With)) after_statement (p.with_statement room d) (g.with_statement room r)
   unfolding p.with_statement
   law_with =
-      law_then (law_opening_word room w.With) (within_any (is next.Identifier)) (λ at.
-      law_then law_records refl (λ records.
+      law_opened_word w.With refl room (λ n e at.
+      law_then (law_records room d r (behind n e)) refl (λ records.
       law_then (law_word w.Do) (within_any statement_begins) (λ z.
-      law_then behind.statement (within_itself after_statement) (λ body.
+      law_then (behind n e).statement (within_itself after_statement) (λ body.
       law_pure _ after_statement))))
 
   -- ---- statements
 
-  law_empty : Law after_statement after_statement (t.Empty <$> here) (g.empty_statement room r)
+  law_empty : Law true after_statement after_statement (t.Empty <$> here) (g.empty_statement room r)
   law_empty = law_map t.Empty (law_here after_statement)
 
   -- the empty statement, which the grammar names first, is what is left
-  law_unlabelled : Law unlabelled_begins after_statement (p.unlabelled room d) (g.unlabelled room r)
+  law_unlabelled : Law true unlabelled_begins after_statement (p.unlabelled room d) (g.unlabelled room r)
   unfolding p.unlabelled
   law_unlabelled =
       law_begun unlabelled_begins refl
@@ -212,34 +213,46 @@ module _ (room : ℕ) (d : p.Deeper) (r : g.Deeper) (behind : BehindLaws d r) wh
       (law_branch (is (Word w.For)) law_for refl refl
       (law_branch (is (Word w.With)) law_with refl refl law_empty))))))))))
 
-  law_labelled : Law (is next.Number) after_statement (p.labelled room d) (g.labelled room r)
+  law_labelled : Law true (is next.Number) after_statement (p.labelled room d) (g.labelled room r)
   unfolding p.labelled
   law_labelled =
       law_then law_number (within_any (is (Symbol s.Colon))) (λ label.
       law_then (law_symbol s.Colon) (within_any unlabelled_begins) (λ z.
       law_map (t.Labelled label) law_unlabelled))
 
-  law_statement_with : Law statement_begins after_statement (p.statement_with room d) (g.statement_with room r)
+  law_statement_with : Law true statement_begins after_statement (p.statement_with room d) (g.statement_with room r)
   unfolding p.statement_with
   law_statement_with = law_begun statement_begins refl (law_as (or_swapped _ _) (law_branch (is next.Number) law_labelled refl refl law_unlabelled))
 
 -- ---- the laws, where so many more openers may stand open
 
-pub laws_behind : (room : ℕ) → BehindLaws (p.behind room) (g.behind room)
+pub laws_behind : (room : ℕ) → BehindLaws (p.behind (suc room)) (g.behind (suc room))
 unfolding p.behind g.behind
-laws_behind zero = record { expression = law_never _ _; access = law_never _ _; statement = law_never _ _ }
+laws_behind zero = record {
+  expression = law_expression zero;
+  access = law_access zero after_access refl;
+  statement = law_statement_with zero (p.behind zero) (g.behind zero) no_room;
+}
+  where
+    no_room : (n : ℕ) → zero ≡ suc n → BehindLaws (p.behind zero) (g.behind zero)
+    no_room n e = absurd (let z : ⊥ = cc in z)
 laws_behind (suc room) = record {
-  expression = law_expression room;
-  access = law_access room after_access refl;
-  statement = law_statement_with room (p.behind room) (g.behind room) (laws_behind room);
+  expression = law_expression (suc room);
+  access = law_access (suc room) after_access refl;
+  statement = law_statement_with (suc room) (p.behind (suc room)) (g.behind (suc room)) (λ n e. laws_behind room);
 }
 
-pub law_statement : (room : ℕ) → Law statement_begins after_statement (p.statement room) (g.statement room)
-law_statement room = law_statement_with room (p.behind room) (g.behind room) (laws_behind room)
+-- behind an opener for which there is room
+pub laws_inside : (room n : ℕ) → room ≡ suc n → BehindLaws (p.behind room) (g.behind room)
+laws_inside zero n e = absurd (let z : ⊥ = cc in z)
+laws_inside (suc room) n e = laws_behind room
 
-pub law_sequence : (room : ℕ) → Law statement_begins after_sequence (p.sequence (p.statement room)) (g.sequence (g.statement room))
+pub law_statement : (room : ℕ) → Law true statement_begins after_statement (p.statement room) (g.statement room)
+law_statement room = law_statement_with room (p.behind room) (g.behind room) (laws_inside room)
+
+pub law_sequence : (room : ℕ) → Law true statement_begins after_sequence (p.sequence (p.statement room)) (g.sequence (g.statement room))
 law_sequence room = law_sequence_of (law_statement room)
 
 -- the same behind one more opener, as in a block
-pub law_sequence_behind : (room : ℕ) → Law statement_begins after_sequence (p.sequence (p.behind room).statement) (g.sequence (g.behind room).statement)
-law_sequence_behind room = law_sequence_of (laws_behind room).statement
+pub law_sequence_behind : (room n : ℕ) → room ≡ suc n → Law true statement_begins after_sequence (p.sequence (p.behind room).statement) (g.sequence (g.behind room).statement)
+law_sequence_behind room n e = law_sequence_of (laws_inside room n e).statement
