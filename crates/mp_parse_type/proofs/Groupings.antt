@@ -7,6 +7,7 @@ use Rattle.mp_cursor.specs.Nexts.{Nexts, either}
 use Rattle.mp_cursor.specs.Parsers.{Parser, next_token, branch}
 use Rattle.mp_cursor.proofs.NextSets.{within, within_is, in_first, in_second}
 use Rattle.mp_cursor.proofs.Settled.{settles_branch}
+use Rattle.mp_cursor.proofs.Recovery.{moves_or, moves_as, recovers_branch, recovers_as, ends_as}
 use Rattle.mp_cursor.proofs.Laws.{Law, Same, read}
 use Rattle.mp_cursor.proofs.SameRules.{same_refl, same_sym, same_trans, same_then, same_or, or_grouped, or_swapped, then_grouped, gives_first}
 
@@ -34,7 +35,7 @@ pub record Splits {A : Type 0} (test : Nexts) (r s t : Rule A) : Type 0 where
   pub first : (i : Input) (x : A) (j : Input) → r i x j → t i x j
   pub second : (i : Input) (x : A) (j : Input) → s i x j → t i x j
 
-module _ {A : Type 0} {f h g : Nexts} {p q : Parser A} {r s t : Rule A} (test : Nexts) (a : Law f g p r) (inside : within f test ≡ true) (c : Law h g q s) (splits : Splits test r s t) where
+module _ {A : Type 0} {u v : Bool} {f h g : Nexts} {p q : Parser A} {r s t : Rule A} (test : Nexts) (a : Law u f g p r) (inside : within f test ≡ true) (c : Law v h g q s) (splits : Splits test r s t) where
   chosen_sound : (i : Input) (x : A) (j : Input) (b : Bool) → (if b then p i else q i) ≡ read x j → t i x j
   chosen_sound i x j true e = splits.first i x j (a.sound i x j e)
   chosen_sound i x j false e = splits.second i x j (c.sound i x j e)
@@ -51,13 +52,25 @@ module _ {A : Type 0} {f h g : Nexts} {p q : Parser A} {r s t : Rule A} (test : 
   begun i x j (inl d) e = in_first f h (next_token i) (a.begins i x j d e)
   begun i x j (inr d) e = in_second f h (next_token i) (c.begins i x j d.1 e)
 
-  pub law_split : Law (either f h) g (branch test p q) t
+  either_of : (i : Input) (x : A) (j : Input) → (r i x j) ⊎ ((test (next_token i) ≡ false) × s i x j) → (r <|>ʳ s) i x j
+  either_of i x j (inl d) = inl d
+  either_of i x j (inr d) = inr d.1
+
+  to_split : (i : Input) (x : A) (j : Input) → (r <|>ʳ s) i x j → t i x j
+  to_split i x j (inl d) = splits.first i x j d
+  to_split i x j (inr d) = splits.second i x j d
+
+  -- it is finished as the first
+  pub law_split : Law u (either f h) g (branch test p q) t
   law_split = record {
     sound = λ i x j e. chosen_sound i x j (test (next_token i)) e;
     complete = λ i x j d e. chosen i x j (splits.to i x j d) e;
     begins = λ i x j d e. begun i x j (splits.to i x j d) e;
     shrinks = λ i x j e. chosen_shrinks i x j (test (next_token i)) e;
     settles = settles_branch p q test a.settles c.settles;
+    moves = moves_as (r <|>ʳ s) t to_split (λ i x j d. either_of i x j (splits.to i x j d)) (moves_or r s a.moves c.moves);
+    recovers = recovers_as (branch test p q) (r <|>ʳ s) t to_split (recovers_branch test p q r s a.recovers c.recovers);
+    ends = λ e. ends_as r t splits.first (a.ends e);
   }
 
 -- ---- parsers that take a token at least

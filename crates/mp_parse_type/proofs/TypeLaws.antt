@@ -1,5 +1,5 @@
 -- The laws of type denoters: the parsers read exactly what the grammar allows.
-use Rattle.std.proofs.Common.{◌≡◌, ◌⊎◌, inl, inr, ℕ, zero, suc, false, List, [], ◌∷◌, Option, Some, None, refl, sym, ap, ◌∙◌, subst}
+use Rattle.std.proofs.Common.{◌≡◌, ◌⊎◌, inl, inr, ℕ, zero, suc, Bool, true, false, List, [], ◌∷◌, Option, Some, None, refl, sym, ap, ◌∙◌, subst}
 use Rattle.mp_ast.specs.declared.tokens.TokenKind.{TokenKind}
 use Rattle.mp_ast.specs.declared.tokens.TokenKind.TheVariants as kind
 use Rattle.mp_ast.specs.declared.words.WordSymbol.{WordSymbol}
@@ -22,13 +22,14 @@ use Rattle.mp_ast.specs.TypeGrammar as g
 use Rattle.mp_cursor.specs.declared.next.Next.TheVariants as next
 use Rattle.mp_cursor.specs.declared.next.Next.TheVariants.{Word, Symbol}
 use Rattle.mp_cursor.specs.Nexts.{Nexts, class_of, is, any, either, among, but}
-use Rattle.mp_cursor.specs.Parsers.{Parser, next_token, branch}
+use Rattle.mp_cursor.specs.Parsers.{Parser, ◌>>=◌, next_token, branch}
 use Rattle.mp_cursor.specs.Parsers as parser
 use Rattle.mp_cursor.specs.Leaves.{signs}
-use Rattle.mp_cursor.proofs.NextSets.{apart_is}
-use Rattle.mp_cursor.proofs.Laws.{Law, Same, law_pure, law_then, law_map, law_followed, law_begun, law_as, law_word, law_symbol, law_never, symbol_only, next_is}
+use Rattle.mp_cursor.proofs.NextSets.{apart_is, within_any}
+use Rattle.mp_cursor.proofs.Recovery.{no_else, ends_token}
+use Rattle.mp_cursor.proofs.Laws.{Law, Same, law_pure, law_then, law_map, law_followed, law_begun, law_as, law_word, law_symbol, law_ends, symbol_only, next_is}
 use Rattle.mp_cursor.proofs.SameRules.{same_refl, same_trans, same_sym, same_then, same_or, or_grouped, or_then, gives_first, behind_list}
-use Rattle.mp_cursor.proofs.LeafLaws.{law_identifier, law_opening_word}
+use Rattle.mp_cursor.proofs.LeafLaws.{law_identifier, has_room, law_opened_word}
 use Rattle.mp_cursor.proofs.ChoiceLaws.{law_branch, law_optional}
 use Rattle.mp_cursor.proofs.ListLaws.{falls_last, Falls, falls_expect, falls_then, law_many_from}
 use Rattle.mp_cursor.proofs.SeriesLaws.{law_series}
@@ -64,7 +65,7 @@ after_fields = among (Word w.End ∷ Symbol s.RightParen ∷ [])
 
 -- ---- simple types
 
-law_enumeration : Law (is (Symbol s.LeftParen)) any p.enumeration g.enumeration
+law_enumeration : Law true (is (Symbol s.LeftParen)) any p.enumeration g.enumeration
 unfolding p.enumeration
 law_enumeration = law_then (law_symbol s.LeftParen) refl (λ at. law_then law_identifiers refl (λ names. law_then (law_symbol s.RightParen) refl (λ end. law_pure _ any)))
 
@@ -72,11 +73,11 @@ law_enumeration = law_then (law_symbol s.LeftParen) refl (λ at. law_then law_id
 abbrev subrange_from : Constant → Rule Denoter
 subrange_from first = symbol s.DotDot >>ʳ d.Subrange first <$>ʳ leaf.constant
 
-law_subrange_from : (first : Constant) → Law (is (Symbol s.DotDot)) any (p.subrange_from first) (subrange_from first)
+law_subrange_from : (first : Constant) → Law true (is (Symbol s.DotDot)) any (p.subrange_from first) (subrange_from first)
 unfolding p.subrange_from
 law_subrange_from first = law_then (law_symbol s.DotDot) refl (λ at. law_map (d.Subrange first) law_constant)
 
-law_subrange : Law p.constant_begins any p.subrange g.subrange
+law_subrange : Law true p.constant_begins any p.subrange g.subrange
 unfolding p.subrange
 law_subrange = law_then law_constant refl law_subrange_from
 
@@ -84,7 +85,7 @@ law_subrange = law_then law_constant refl law_subrange_from
 abbrev named_type : Rule Denoter
 named_type = leaf.identifier >>=ʳ (λ name. subrange_from (c.Name None name) <|>ʳ gives (d.Named name))
 
-law_named_type : Law name after_denoter p.named_type named_type
+law_named_type : Law true name after_denoter p.named_type named_type
 unfolding p.named_type
 law_named_type = law_then law_identifier refl (λ name. law_branch (is (Symbol s.DotDot)) (law_followed after_denoter refl (law_subrange_from (c.Name None name))) refl refl (law_pure (d.Named name) after_denoter))
 
@@ -126,12 +127,12 @@ simple_splits = record { to = to; first = λ i x j d. first i x j d.0 d.1 d.2 d.
     first i x j n m k (inl v) = inr (inr (c.Name None n, m, inl (None, i, inr (refl, refl), inr (n, m, k, (refl, refl))), v))
     first i x j n m k (inr v) = inl (n, m, k, v)
 
-law_simple_type : Law simple_begins after_denoter p.simple_type g.simple_type
+law_simple_type : Law true simple_begins after_denoter p.simple_type g.simple_type
 unfolding p.simple_type
 law_simple_type = law_begun simple_begins refl
     (law_split name law_named_type refl (law_branch (is (Symbol s.LeftParen)) (law_followed after_denoter refl law_enumeration) refl refl (law_followed after_denoter refl law_subrange)) simple_splits)
 
-law_pointer_type : Law (is (Symbol s.Caret)) any p.pointer_type g.pointer_type
+law_pointer_type : Law true (is (Symbol s.Caret)) any p.pointer_type g.pointer_type
 unfolding p.pointer_type
 law_pointer_type = law_then (law_symbol s.Caret) refl (λ at. law_map (d.Pointer at) law_identifier)
 
@@ -144,7 +145,7 @@ an_index at of = record { at = at; of = of }
 abbrev index_types : ℕ → Rule (List (Index Denoter))
 index_types at = g.simple_type >>=ʳ (λ of. (λ more. an_index at of ∷ more) <$>ʳ many g.further_index)
 
-law_index_types : (at : ℕ) → Law simple_begins (is (Symbol s.RightBracket)) (p.index_types at) (index_types at)
+law_index_types : (at : ℕ) → Law true simple_begins (is (Symbol s.RightBracket)) (p.index_types at) (index_types at)
 unfolding p.index_types p.further_index
 law_index_types at =
     law_then law_simple_type refl (λ of.
@@ -152,14 +153,18 @@ law_index_types at =
     (law_then (law_symbol s.Comma) refl (λ at. law_map (an_index at) law_simple_type))
     (falls_then (falls_expect (kind.Symbol s.Comma) (symbol_only s.Comma)) (λ at. law_map (an_index at) law_simple_type)) refl refl refl refl refl (an_index at of ∷ []))
 
-module _ {q : Parser Denoter} {r : Rule Denoter} (denoter : Law denoter_begins after_denoter q r) where
+module _ {q : Parser Denoter} {r : Rule Denoter} (denoter : Law true denoter_begins after_denoter q r) where
   -- names of one type
-  law_section_of : Law name after_denoter (p.section q) (g.section r)
+  law_section_of : Law true name after_denoter (p.section q) (g.section r)
   unfolding p.section
   law_section_of = law_then law_identifiers refl (λ names. law_then (law_symbol s.Colon) refl (λ at. law_then denoter refl (λ of. law_pure _ after_denoter)))
 
-module _ {q : Parser Denoter} {r : Rule Denoter} (fields : Law fields_begin after_fields q r) where
-  law_variant : Law p.constant_begins any (p.variant q) (g.variant r)
+-- variants, and perhaps one more `;`
+abbrev variants : Rule Denoter → Rule (List (Variant Denoter))
+variants fields = rule.separated (symbol s.Semicolon) (g.variant fields) >>=ʳ (λ found. optional (symbol s.Semicolon) >>ʳ gives found)
+
+module _ {q : Parser Denoter} {r : Rule Denoter} (fields : Law true fields_begin after_fields q r) where
+  law_variant : Law true p.constant_begins any (p.variant q) (g.variant r)
   unfolding p.variant
   law_variant =
       law_then law_constants refl (λ constants.
@@ -168,11 +173,7 @@ module _ {q : Parser Denoter} {r : Rule Denoter} (fields : Law fields_begin afte
       law_then fields refl (λ found.
       law_then (law_symbol s.RightParen) refl (λ closing. law_pure _ any)))))
 
-  -- variants, and perhaps one more `;`
-  abbrev variants : Rule (List (Variant Denoter))
-  variants = rule.separated (symbol s.Semicolon) (g.variant r) >>=ʳ (λ found. optional (symbol s.Semicolon) >>ʳ gives found)
-
-  law_variants : Law p.constant_begins after_fields (p.variants q) variants
+  law_variants : Law true p.constant_begins after_fields (p.variants q) (variants r)
   unfolding p.variants p.further_variant
   law_variants = law_series (kind.Symbol s.Semicolon) (symbol_only s.Semicolon) p.constant_begins after_fields law_variant refl refl refl refl refl
 
@@ -180,7 +181,7 @@ module _ {q : Parser Denoter} {r : Rule Denoter} (fields : Law fields_begin afte
 abbrev tag : Rule (Option Identifier × Identifier)
 tag = leaf.identifier >>=ʳ (λ name. (symbol s.Colon >>ʳ (λ of. (Some name, of)) <$>ʳ leaf.identifier) <|>ʳ gives (None, name))
 
-law_tag : Law name (is (Word w.Of)) p.tag tag
+law_tag : Law true name (is (Word w.Of)) p.tag tag
 unfolding p.tag
 law_tag = law_then law_identifier refl (λ name. law_branch (is (Symbol s.Colon)) (law_followed (is (Word w.Of)) refl (law_then (law_symbol s.Colon) refl (λ at. law_map _ law_identifier))) refl refl (law_pure (None, name) (is (Word w.Of))))
 
@@ -206,59 +207,69 @@ tag_same = record { to = λ i x j t. to i x j t.0 t.1 t.2 t.3; back = λ i x j t
 
 -- the laws of what stands behind one more opener
 pub record BehindLaws (q : p.Deeper) (r : g.Deeper) : Type 0 where
-  pub denoter : Law denoter_begins after_denoter q.denoter r.denoter
-  pub field_list : Law fields_begin after_fields q.field_list r.field_list
+  pub denoter : Law true denoter_begins after_denoter q.denoter r.denoter
+  pub field_list : Law true fields_begin after_fields q.field_list r.field_list
 
-module _ (room : ℕ) (q : p.Deeper) (r : g.Deeper) (behind : BehindLaws q r) where
+module _ (room : ℕ) (q : p.Deeper) (r : g.Deeper) (behind : (n : ℕ) → room ≡ suc n → BehindLaws q r) where
   -- ---- structured types
 
-  law_structure_word : (packed : Option ℕ) (v : WordSymbol) → Law (is (Word v)) any (p.structure_word room q packed v) (g.structure_word room r packed v)
-  unfolding p.structure_word
-  law_structure_word None v = law_opening_word room v
-  law_structure_word (Some packed) v = law_word v
+  -- behind `packed`, the opener stands already
+  abbrev Opened : Option ℕ → Type 0
+  Opened None = (n : ℕ) → room ≡ suc n → BehindLaws q r
+  Opened (Some packed) = BehindLaws q r
 
-  law_array_type : (packed : Option ℕ) → Law (is (Word w.Array)) after_denoter (p.array_type room q packed) (g.array_type room r packed)
+  abbrev finishes : Option ℕ → Bool
+  finishes None = has_room room
+  finishes (Some packed) = true
+
+  -- the word of a structure, and what stands behind it
+  law_structured : {f h : Nexts} {t : ℕ → Parser Denoter} {u : ℕ → Rule Denoter} (packed : Option ℕ) (v : WordSymbol) → no_else (kind.Word v) ≡ true → Opened packed → (BehindLaws q r → (at : ℕ) → Law true f h (t at) (u at)) → Law (finishes packed) (is (Word v)) h (p.structure_word room q packed v >>= t) (g.structure_word room r packed v >>=ʳ u)
+  unfolding p.structure_word
+  law_structured None v other opened a = law_opened_word v other room (λ n e at. a (opened n e) at)
+  law_structured {f = f} (Some packed) v other opened a = law_then (law_ends (ends_token (kind.Word v) other) (law_word v)) (within_any f) (λ at. a opened at)
+
+  law_array_type : (packed : Option ℕ) → Opened packed → Law (finishes packed) (is (Word w.Array)) after_denoter (p.array_type room q packed) (g.array_type room r packed)
   unfolding p.array_type
-  law_array_type packed =
-      law_then (law_structure_word packed w.Array) refl (λ at.
+  law_array_type packed opened =
+      law_structured packed w.Array refl opened (λ laws at.
       law_then (law_symbol s.LeftBracket) refl (λ opening.
       law_as (regrouped (λ of. map_then (λ more. an_index (p.first_of packed at) of ∷ more) _))
       (law_then (law_index_types (p.first_of packed at)) refl (λ indices.
       law_then (law_symbol s.RightBracket) refl (λ closing.
-      law_then (law_word w.Of) refl (λ of. law_map (d.Array (p.is_packed packed) indices) behind.denoter))))))
+      law_then (law_word w.Of) refl (λ of. law_map (d.Array (p.is_packed packed) indices) laws.denoter))))))
 
-  law_record_type : (packed : Option ℕ) → Law (is (Word w.Record)) any (p.record_type room q packed) (g.record_type room r packed)
+  law_record_type : (packed : Option ℕ) → Opened packed → Law (finishes packed) (is (Word w.Record)) any (p.record_type room q packed) (g.record_type room r packed)
   unfolding p.record_type
-  law_record_type packed =
-      law_then (law_structure_word packed w.Record) refl (λ at.
-      law_then behind.field_list refl (λ fields. law_then (law_word w.End) refl (λ end. law_pure _ any)))
+  law_record_type packed opened =
+      law_structured packed w.Record refl opened (λ laws at.
+      law_then laws.field_list refl (λ fields. law_then (law_word w.End) refl (λ end. law_pure _ any)))
 
-  law_set_type : (packed : Option ℕ) → Law (is (Word w.Set)) after_denoter (p.set_type room q packed) (g.set_type room r packed)
+  law_set_type : (packed : Option ℕ) → Opened packed → Law (finishes packed) (is (Word w.Set)) after_denoter (p.set_type room q packed) (g.set_type room r packed)
   unfolding p.set_type
-  law_set_type packed =
-      law_then (law_structure_word packed w.Set) refl (λ at. law_then (law_word w.Of) refl (λ of. law_map (d.Set (p.first_of packed at) (p.is_packed packed)) law_simple_type))
+  law_set_type packed opened =
+      law_structured packed w.Set refl opened (λ laws at. law_then (law_word w.Of) refl (λ of. law_map (d.Set (p.first_of packed at) (p.is_packed packed)) law_simple_type))
 
-  law_file_type : (packed : Option ℕ) → Law (is (Word w.File)) after_denoter (p.file_type room q packed) (g.file_type room r packed)
+  law_file_type : (packed : Option ℕ) → Opened packed → Law (finishes packed) (is (Word w.File)) after_denoter (p.file_type room q packed) (g.file_type room r packed)
   unfolding p.file_type
-  law_file_type packed =
-      law_then (law_structure_word packed w.File) refl (λ at. law_then (law_word w.Of) refl (λ of. law_map (d.File (p.first_of packed at) at) behind.denoter))
+  law_file_type packed opened =
+      law_structured packed w.File refl opened (λ laws at. law_then (law_word w.Of) refl (λ of. law_map (d.File (p.first_of packed at) at) laws.denoter))
 
-  law_structure : (packed : Option ℕ) → Law p.structure_words after_denoter (p.structure room q packed) (g.structure room r packed)
+  law_structure : (packed : Option ℕ) → Opened packed → Law (finishes packed) p.structure_words after_denoter (p.structure room q packed) (g.structure room r packed)
   unfolding p.structure
-  law_structure packed = law_begun p.structure_words refl
-      (law_branch (is (Word w.Array)) (law_array_type packed) refl refl
-      (law_branch (is (Word w.Record)) (law_followed after_denoter refl (law_record_type packed)) refl refl
-      (law_branch (is (Word w.Set)) (law_set_type packed) refl refl (law_file_type packed))))
+  law_structure packed opened = law_begun p.structure_words refl
+      (law_branch (is (Word w.Array)) (law_array_type packed opened) refl refl
+      (law_branch (is (Word w.Record)) (law_followed after_denoter refl (law_record_type packed opened)) refl refl
+      (law_branch (is (Word w.Set)) (law_set_type packed opened) refl refl (law_file_type packed opened))))
 
-  law_packed_structure : Law (is (Word w.Packed)) after_denoter (p.packed_structure room q) (g.packed_structure room r)
+  law_packed_structure : Law (has_room room) (is (Word w.Packed)) after_denoter (p.packed_structure room q) (g.packed_structure room r)
   unfolding p.packed_structure
-  law_packed_structure = law_then (law_opening_word room w.Packed) refl (λ at. law_structure (Some at))
+  law_packed_structure = law_opened_word w.Packed refl room (λ n e at. law_structure (Some at) (behind n e))
 
-  law_denoter_with : Law denoter_begins after_denoter (p.denoter_with room q) (g.denoter_with room r)
+  law_denoter_with : Law true denoter_begins after_denoter (p.denoter_with room q) (g.denoter_with room r)
   unfolding p.denoter_with
   law_denoter_with = law_begun denoter_begins refl (law_as (last_first _ _ _ _)
       (law_branch (is (Symbol s.Caret)) (law_followed after_denoter refl law_pointer_type) refl refl
-      (law_branch p.structure_words (law_structure None) refl refl
+      (law_branch p.structure_words (law_structure None behind) refl refl
       (law_branch (is (Word w.Packed)) law_packed_structure refl refl law_simple_type))))
 
   -- ---- variant parts
@@ -274,7 +285,7 @@ module _ (room : ℕ) (q : p.Deeper) (r : g.Deeper) (behind : BehindLaws q r) wh
   variant_part = g.variant_part room r >>=ʳ and_semicolon
 
   abbrev behind_tag : ℕ → Tag → Rule (VariantPart Denoter)
-  behind_tag at tag = word w.Of >>ʳ (variants behind.field_list >>=ʳ (λ found. gives (a_part at tag found)))
+  behind_tag at tag = word w.Of >>ʳ (variants r.field_list >>=ʳ (λ found. gives (a_part at tag found)))
 
   -- the variants, behind the tag
   variants_same : (at : ℕ) (tag : Tag) → Same (behind_tag at tag) ((word w.Of >>ʳ (rule.separated (symbol s.Semicolon) (g.variant r.field_list) >>=ʳ (λ found. gives (a_part at tag found)))) >>=ʳ and_semicolon)
@@ -287,15 +298,15 @@ module _ (room : ℕ) (q : p.Deeper) (r : g.Deeper) (behind : BehindLaws q r) wh
       (regrouped (λ tag. regrouped (λ of. same_sym (variants_same at (tag, of)))))
       (same_sym (same_trans (same_then tag_same (λ tag. same_refl (behind_tag at tag))) (regrouped (λ tag. regrouped (λ of. gives_first (tag, of) (behind_tag at))))))))
 
-  law_variant_part : Law (is (Word w.Case)) after_fields (p.variant_part room q) variant_part
+  law_variant_part : Law (has_room room) (is (Word w.Case)) after_fields (p.variant_part room q) variant_part
   unfolding p.variant_part
   law_variant_part = law_as part_same
-      (law_then (law_opening_word room w.Case) refl (λ at.
+      (law_opened_word w.Case refl room (λ n e at.
       law_then law_tag refl (λ tag.
       law_then (law_word w.Of) refl (λ of.
-      law_then (law_variants behind.field_list) refl (λ found. law_pure (a_part at tag found) after_fields)))))
+      law_then (law_variants (behind n e).field_list) refl (λ found. law_pure (a_part at tag found) after_fields)))))
 
-  law_optional_part : Law (either (is (Word w.Case)) after_fields) after_fields (parser.optional (is (Word w.Case)) (p.variant_part room q)) (optional variant_part)
+  law_optional_part : Law true (either (is (Word w.Case)) after_fields) after_fields (parser.optional (is (Word w.Case)) (p.variant_part room q)) (optional variant_part)
   law_optional_part = law_optional (is (Word w.Case)) after_fields law_variant_part refl refl
 
   -- ---- field lists
@@ -342,7 +353,7 @@ module _ (room : ℕ) (q : p.Deeper) (r : g.Deeper) (behind : BehindLaws q r) wh
   abbrev more_sections : Rule (List (Section Denoter))
   more_sections = many (symbol s.Semicolon >>ʳ one_section)
 
-  law_fixed_fields : Law name after_fields (p.fixed_fields room q) (one_section >>=ʳ (λ first. more_sections >>=ʳ (λ more. ending >>=ʳ (λ part. gives (d.Fields (first ∷ more) part)))))
+  law_fixed_fields : Law true name after_fields (p.fixed_fields room q) (one_section >>=ʳ (λ first. more_sections >>=ʳ (λ more. ending >>=ʳ (λ part. gives (d.Fields (first ∷ more) part)))))
   unfolding p.fixed_fields p.further_section
   law_fixed_fields = law_then (law_section_of law_denoter_with) refl (λ first.
       law_with_last (kind.Symbol s.Semicolon) (symbol_only s.Semicolon) name after_fields d.Fields None (law_section_of law_denoter_with) law_optional_part refl refl refl refl refl (first ∷ []))
@@ -383,7 +394,7 @@ module _ (room : ℕ) (q : p.Deeper) (r : g.Deeper) (behind : BehindLaws q r) wh
   fields_same : Same ((g.fixed_fields room r >>=ʳ and_semicolon) <|>ʳ ((g.variant_fields room r >>=ʳ and_semicolon) <|>ʳ gives (d.Fields [] None))) (g.field_list_with room r)
   fields_same = same_trans (same_sym (or_grouped _ _ _)) (same_or (same_sym (or_then (g.fixed_fields room r) (g.variant_fields room r) and_semicolon)) (same_refl (gives (d.Fields [] None))))
 
-  law_field_list_with : Law fields_begin after_fields (p.field_list_with room q) (g.field_list_with room r)
+  law_field_list_with : Law true fields_begin after_fields (p.field_list_with room q) (g.field_list_with room r)
   unfolding p.field_list_with
   law_field_list_with = law_begun fields_begin refl (law_as fields_same (law_branch name (law_as fixed_same law_fixed_fields) refl refl (law_as last_same (law_map no_sections law_optional_part))))
 
@@ -392,24 +403,20 @@ module _ (room : ℕ) (q : p.Deeper) (r : g.Deeper) (behind : BehindLaws q r) wh
 abbrev a_section : List Identifier → Denoter → Section Denoter
 a_section names of = record { names = names; of = of }
 
-never : BehindLaws (p.behind zero) (g.behind zero)
+law_behind : (room n : ℕ) → room ≡ suc n → BehindLaws (p.behind room) (g.behind room)
 unfolding p.behind g.behind
-never = record { denoter = law_never denoter_begins after_denoter; field_list = law_never fields_begin after_fields }
-
-law_behind : (room : ℕ) → BehindLaws (p.behind room) (g.behind room)
-unfolding p.behind g.behind
-law_behind zero = never
-law_behind (suc room) = record {
+law_behind zero n e = absurd (let z : ⊥ = cc in z)
+law_behind (suc room) n e = record {
   denoter = law_denoter_with room (p.behind room) (g.behind room) (law_behind room);
   field_list = law_field_list_with room (p.behind room) (g.behind room) (law_behind room);
 }
 
 -- a type denoter
-pub law_denoter : (room : ℕ) → Law denoter_begins after_denoter (p.denoter room) (g.denoter room)
+pub law_denoter : (room : ℕ) → Law true denoter_begins after_denoter (p.denoter room) (g.denoter room)
 law_denoter room = law_denoter_with room (p.behind room) (g.behind room) (law_behind room)
 
 -- names of one type
-pub law_section : (room : ℕ) → Law section_begins after_denoter (p.section (p.denoter room)) (g.section (g.denoter room))
+pub law_section : (room : ℕ) → Law true section_begins after_denoter (p.section (p.denoter room)) (g.section (g.denoter room))
 law_section room = law_section_of (law_denoter room)
 
 pub falls_section : (room : ℕ) → Falls (p.section (p.denoter room))
