@@ -11,7 +11,7 @@ use Rattle.mp_cursor.proofs.Settled.{settles_counted, settles_deeper, settles_ow
 use Rattle.mp_cursor.specs.declared.failure.Failure.{Failure}
 use Rattle.mp_cursor.proofs.Settled.{place, stopped, put}
 use Rattle.mp_cursor.proofs.Recovery.{is_else, failure_is, Front, recovers_first}
-use Rattle.mp_cursor.proofs.Laws.{Law, law_unfinished, read, read_is}
+use Rattle.mp_cursor.proofs.Laws.{LawWhere, law_unfinished, read, read_is}
 
 -- ---- declarations
 
@@ -27,7 +27,7 @@ unfolding too_many left
 counted_first true i e h = absurd (let n : ⊥ = cc in n)
 counted_first false i e h = sym (ap place (failure_is {A = Unit {0}} (too_many i) e h))
 
-pub law_counted : (most : ℕ) (g : Nexts) → Law false g g (counted most) (rule.one_more_declaration most)
+pub law_counted : {P : Type 0} (most : ℕ) (g : Nexts) → LawWhere P false g g (counted most) (rule.one_more_declaration most)
 unfolding counted next_token
 law_counted most g = record {
   sound = λ i x j h. let w = counted_by (nat_lt i.declared most) i x j h in (ltb-true _ _ w.0, sym w.1);
@@ -37,8 +37,8 @@ law_counted most g = record {
   shrinks = λ i x j h. let e = ap (λ m. length m.rest) (counted_by (nat_lt i.declared most) i x j h).1 in omega arith;
   settles = settles_counted most;
   moves = λ i x j d. ([], ap (λ m. m.rest) (sym d.1), λ t h. (d.0, ap (λ m. put m t) d.1));
-  recovers = recovers_first (counted most) (rule.one_more_declaration most) (λ i e h. counted_first (nat_lt i.declared most) i e h);
-  ends = λ e. absurd (let n : ⊥ = cc in n);
+  recovers = λ granted. recovers_first (counted most) (rule.one_more_declaration most) (λ i e h. counted_first (nat_lt i.declared most) i e h);
+  ends = λ granted e. absurd (let n : ⊥ = cc in n);
 }
 
 -- ---- depth
@@ -48,7 +48,7 @@ unfolding too_deep left
 too_deep_first {A} p i e h = sym (ap place (failure_is {A = A} (too_deep i) e h))
 
 -- where so many more blocks may stand in one another, and it is a law for what stands there
-pub law_deeper : {A : Type 0} {b : Bool} {f g : Nexts} {p : Parser A} {r : Rule A} (depth : ℕ) → Law b f g p r → Law false f g (deeper depth p) (rule.deeper depth r)
+pub law_deeper : {P A : Type 0} {b : Bool} {f g : Nexts} {p : Parser A} {r : Rule A} (depth : ℕ) → LawWhere P b f g p r → LawWhere P false f g (deeper depth p) (rule.deeper depth r)
 law_deeper {p = p} {r = r} zero a = record {
   sound = λ i x j h. absurd (let n : ⊥ = cc in n);
   complete = λ i x j d e. absurd d;
@@ -56,8 +56,8 @@ law_deeper {p = p} {r = r} zero a = record {
   shrinks = λ i x j h. absurd (let n : ⊥ = cc in n);
   settles = settles_deeper zero p a.settles;
   moves = λ i x j d. absurd d;
-  recovers = recovers_first (deeper zero p) (rule.deeper zero r) (too_deep_first p);
-  ends = λ e. absurd (let n : ⊥ = cc in n);
+  recovers = λ granted. recovers_first (deeper zero p) (rule.deeper zero r) (too_deep_first p);
+  ends = λ granted e. absurd (let n : ⊥ = cc in n);
 }
 law_deeper (suc depth) a = law_unfinished a
 
@@ -86,7 +86,7 @@ own_recovers {A} r i e (Err f) a h l =
     let g = a e (ap stopped u) l in
     (g.0, g.1, g.2, g.3, record g.4 { at = i.at }, g.5, g.6, λ t o. (put g.4 t, g.7 t o, refl))
 
-pub law_own_ordinals : {A : Type 0} {b : Bool} {f g : Nexts} {p : Parser A} {r : Rule A} → Law b f g p r → Law b f g (with_own_ordinals p) (rule.with_own_ordinals r)
+pub law_own_ordinals : {P A : Type 0} {b : Bool} {f g : Nexts} {p : Parser A} {r : Rule A} → LawWhere P b f g p r → LawWhere P b f g (with_own_ordinals p) (rule.with_own_ordinals r)
 unfolding with_own_ordinals next_token
 law_own_ordinals {g = g} {p = p} {r = r} a = record {
   sound = λ i x j h. own_by r i x j (p (afresh i)) (λ y m e. a.sound (afresh i) y m e) h;
@@ -96,6 +96,6 @@ law_own_ordinals {g = g} {p = p} {r = r} a = record {
   shrinks = λ i x j h. own_shrinks i.at (length i.rest) x j (p (afresh i)) (λ y m e. a.shrinks (afresh i) y m e) h;
   settles = settles_own_ordinals p a.settles;
   moves = λ i x j d. let w = a.moves (afresh i) x d.0 d.1 in let u = ap (λ m. m.rest) d.2 in (w.0, w.1 ∙ ap (λ ks. w.0 ++ ks) (sym u), λ t h. (put d.0 t, w.2 t (λ v. ap is_else (sym u) ∙ h v), ap (λ m. put m t) d.2));
-  recovers = λ i e h l. own_recovers r i e (p (afresh i)) (λ f u v. a.recovers (afresh i) f u v) h l;
-  ends = λ e i. let w = a.ends e (afresh i) in (w.0, w.1, record w.2 { at = i.at }, w.3, λ t o. (put w.2 t, w.4 t o, refl));
+  recovers = λ granted i e h l. own_recovers r i e (p (afresh i)) (λ f u v. a.recovers granted (afresh i) f u v) h l;
+  ends = λ granted e i. let w = a.ends granted e (afresh i) in (w.0, w.1, record w.2 { at = i.at }, w.3, λ t o. (put w.2 t, w.4 t o, refl));
 }

@@ -26,7 +26,7 @@ abbrev pub read : {A : Type 0} → A → Input → Outcome A
 read x i = Ok (x, i)
 
 -- before such a token, and where such a token follows
-pub record Law {A : Type 0} (finishes : Bool) (first follow : Nexts) (p : Parser A) (r : Rule A) : Type 0 where
+pub record LawWhere {A : Type 0} (P : Type 0) (finishes : Bool) (first follow : Nexts) (p : Parser A) (r : Rule A) : Type 0 where
   pub sound : (i : Input) (x : A) (j : Input) → p i ≡ read x j → r i x j
   pub complete : (i : Input) (x : A) (j : Input) → r i x j → follow (next_token j) ≡ true → p i ≡ read x j
   pub begins : (i : Input) (x : A) (j : Input) → r i x j → follow (next_token j) ≡ true → first (next_token i) ≡ true
@@ -36,9 +36,26 @@ pub record Law {A : Type 0} (finishes : Bool) (first follow : Nexts) (p : Parser
   -- what it takes may stand before anything else, but for an `else`
   pub moves : Moves r
   -- where it stops behind its first token, what it took can be finished
-  pub recovers : Recovers p r
+  pub recovers : P → Recovers p r
   -- it can be finished from the start, where it is said to
-  pub ends : finishes ≡ true → Ends r
+  pub ends : P → finishes ≡ true → Ends r
+
+-- the laws that hold without any condition
+abbrev pub Law : {A : Type 0} → Bool → Nexts → Nexts → Parser A → Rule A → Type 0
+Law b f g p r = LawWhere (Unit {0}) b f g p r
+
+-- where there is a condition
+pub law_where : {A : Type 0} {b : Bool} {f g : Nexts} {p : Parser A} {r : Rule A} (P : Type 0) → Law b f g p r → LawWhere P b f g p r
+law_where P a = record {
+  sound = a.sound;
+  complete = a.complete;
+  begins = a.begins;
+  shrinks = a.shrinks;
+  settles = a.settles;
+  moves = a.moves;
+  recovers = λ granted. a.recovers tt;
+  ends = λ granted e. a.ends tt e;
+}
 
 -- ---- outcomes
 
@@ -54,7 +71,7 @@ read_is {A} x y i j h = let e : ◌≡◌ {A = A × Input} (x, i) (y, j) = cc in
 
 -- ---- nothing, one after another, and values
 
-pub law_pure : {A : Type 0} (x : A) (g : Nexts) → Law true g g (pure x) (gives x)
+pub law_pure : {P A : Type 0} (x : A) (g : Nexts) → LawWhere P true g g (pure x) (gives x)
 law_pure x g = record {
   sound = λ i y j h. read_is x y i j h;
   complete = λ i y j h e. ap (λ z. read z i) h.0 ∙ ap (λ m. read y m) h.1;
@@ -62,11 +79,11 @@ law_pure x g = record {
   shrinks = λ i y j h. let e = ap (λ m. length m.rest) (read_is x y i j h).1 in omega arith;
   settles = settles_pure x;
   moves = moves_pure x;
-  recovers = recovers_pure x;
-  ends = λ e. ends_pure x;
+  recovers = λ granted. recovers_pure x;
+  ends = λ granted e. ends_pure x;
 }
 
-pub law_then : {A B : Type 0} {b : Bool} {f g fq h : Nexts} {p : Parser A} {r : Rule A} {q : A → Parser B} {s : A → Rule B} → Law b f g p r → within fq g ≡ true → ((x : A) → Law true fq h (q x) (s x)) → Law b f h (p >>= q) (r >>=ʳ s)
+pub law_then : {P A B : Type 0} {b : Bool} {f g fq h : Nexts} {p : Parser A} {r : Rule A} {q : A → Parser B} {s : A → Rule B} → LawWhere P b f g p r → within fq g ≡ true → ((x : A) → LawWhere P true fq h (q x) (s x)) → LawWhere P b f h (p >>= q) (r >>=ʳ s)
 law_then {g = g} {fq = fq} {p = p} {r = r} {q = q} {s = s} a w b = record {
   sound = λ i y j e.
       let o = both_ok (p i) q y j e in
@@ -82,14 +99,14 @@ law_then {g = g} {fq = fq} {p = p} {r = r} {q = q} {s = s} a w b = record {
       omega arith;
   settles = settles_then p q a.settles (λ x. (b x).settles);
   moves = moves_then r s a.moves (λ x. (b x).moves);
-  recovers = recovers_then p q r s a.sound a.moves a.recovers (λ x. (b x).settles) (λ x. (b x).ends refl) (λ x. (b x).recovers);
-  ends = λ e. ends_then r s (a.ends e) (λ x. (b x).ends refl);
+  recovers = λ granted. recovers_then p q r s a.sound a.moves (a.recovers granted) (λ x. (b x).settles) (λ x. (b x).ends granted refl) (λ x. (b x).recovers granted);
+  ends = λ granted e. ends_then r s (a.ends granted e) (λ x. (b x).ends granted refl);
 }
 
 pub within_self : (g : Nexts) (n : Next) → g n ≡ true → g n ≡ true
 within_self g n e = e
 
-pub law_map : {A B : Type 0} {c : Bool} {f g : Nexts} {p : Parser A} {r : Rule A} (b : A → B) → Law c f g p r → Law c f g (b <$> p) (b <$>ʳ r)
+pub law_map : {P A B : Type 0} {c : Bool} {f g : Nexts} {p : Parser A} {r : Rule A} (b : A → B) → LawWhere P c f g p r → LawWhere P c f g (b <$> p) (b <$>ʳ r)
 law_map {f = f} {g = g} {p = p} {r = r} b a = record {
   sound = λ i y j e.
       let o = both_ok (p i) (λ x. pure (b x)) y j e in
@@ -105,12 +122,12 @@ law_map {f = f} {g = g} {p = p} {r = r} b a = record {
       omega arith;
   settles = settles_then p (λ x. pure (b x)) a.settles (λ x. settles_pure (b x));
   moves = moves_then r (λ x. gives (b x)) a.moves (λ x. moves_pure (b x));
-  recovers = recovers_then p (λ x. pure (b x)) r (λ x. gives (b x)) a.sound a.moves a.recovers (λ x. settles_pure (b x)) (λ x. ends_pure (b x)) (λ x. recovers_pure (b x));
-  ends = λ e. ends_then r (λ x. gives (b x)) (a.ends e) (λ x. ends_pure (b x));
+  recovers = λ granted. recovers_then p (λ x. pure (b x)) r (λ x. gives (b x)) a.sound a.moves (a.recovers granted) (λ x. settles_pure (b x)) (λ x. ends_pure (b x)) (λ x. recovers_pure (b x));
+  ends = λ granted e. ends_then r (λ x. gives (b x)) (a.ends granted e) (λ x. ends_pure (b x));
 }
 
 -- where fewer tokens may follow, or more may come first
-pub law_followed : {A : Type 0} {b : Bool} {f g : Nexts} {p : Parser A} {r : Rule A} (h : Nexts) → within h g ≡ true → Law b f g p r → Law b f h p r
+pub law_followed : {P A : Type 0} {b : Bool} {f g : Nexts} {p : Parser A} {r : Rule A} (h : Nexts) → within h g ≡ true → LawWhere P b f g p r → LawWhere P b f h p r
 law_followed {g = g} h w a = record {
   sound = a.sound;
   complete = λ i x j d e. a.complete i x j d (within_is h g w (next_token j) e);
@@ -122,7 +139,7 @@ law_followed {g = g} h w a = record {
   ends = a.ends;
 }
 
-pub law_begun : {A : Type 0} {b : Bool} {f g : Nexts} {p : Parser A} {r : Rule A} (h : Nexts) → within f h ≡ true → Law b f g p r → Law b h g p r
+pub law_begun : {P A : Type 0} {b : Bool} {f g : Nexts} {p : Parser A} {r : Rule A} (h : Nexts) → within f h ≡ true → LawWhere P b f g p r → LawWhere P b h g p r
 law_begun {f = f} h w a = record {
   sound = a.sound;
   complete = a.complete;
@@ -139,7 +156,7 @@ pub record Same {A : Type 0} (r s : Rule A) : Type 0 where
   pub to : (i : Input) (x : A) (j : Input) → r i x j → s i x j
   pub back : (i : Input) (x : A) (j : Input) → s i x j → r i x j
 
-pub law_as : {A : Type 0} {b : Bool} {f g : Nexts} {p : Parser A} {r s : Rule A} → Same r s → Law b f g p r → Law b f g p s
+pub law_as : {P A : Type 0} {b : Bool} {f g : Nexts} {p : Parser A} {r s : Rule A} → Same r s → LawWhere P b f g p r → LawWhere P b f g p s
 law_as {p = p} {r = r} {s = s} e a = record {
   sound = λ i x j h. e.to i x j (a.sound i x j h);
   complete = λ i x j d h. a.complete i x j (e.back i x j d) h;
@@ -147,12 +164,12 @@ law_as {p = p} {r = r} {s = s} e a = record {
   shrinks = a.shrinks;
   settles = a.settles;
   moves = moves_as r s e.to e.back a.moves;
-  recovers = recovers_as p r s e.to a.recovers;
-  ends = λ h. ends_as r s e.to (a.ends h);
+  recovers = λ granted. recovers_as p r s e.to (a.recovers granted);
+  ends = λ granted h. ends_as r s e.to (a.ends granted h);
 }
 
 -- where it need not be finished
-pub law_unfinished : {A : Type 0} {b : Bool} {f g : Nexts} {p : Parser A} {r : Rule A} → Law b f g p r → Law false f g p r
+pub law_unfinished : {P A : Type 0} {b : Bool} {f g : Nexts} {p : Parser A} {r : Rule A} → LawWhere P b f g p r → LawWhere P false f g p r
 law_unfinished a = record {
   sound = a.sound;
   complete = a.complete;
@@ -161,11 +178,11 @@ law_unfinished a = record {
   settles = a.settles;
   moves = a.moves;
   recovers = a.recovers;
-  ends = λ e. absurd (let n : ⊥ = cc in n);
+  ends = λ granted e. absurd (let n : ⊥ = cc in n);
 }
 
 -- where it can be finished after all
-pub law_ends : {A : Type 0} {b : Bool} {f g : Nexts} {p : Parser A} {r : Rule A} → Ends r → Law b f g p r → Law true f g p r
+pub law_ends : {P A : Type 0} {b : Bool} {f g : Nexts} {p : Parser A} {r : Rule A} → (P → Ends r) → LawWhere P b f g p r → LawWhere P true f g p r
 law_ends h a = record {
   sound = a.sound;
   complete = a.complete;
@@ -174,7 +191,7 @@ law_ends h a = record {
   settles = a.settles;
   moves = a.moves;
   recovers = a.recovers;
-  ends = λ e. h;
+  ends = λ granted e. h granted;
 }
 
 -- ---- tokens
@@ -240,7 +257,7 @@ pub expect_first : (k : TokenKind) (i : Input) (e : Failure) → expect (class_o
 unfolding expect
 expect_first k i e h = refused_first (is (class_of k) (next_token i)) i e h
 
-pub law_expect : (k : TokenKind) → IsOnly k → Law (no_else k) (is (class_of k)) any (expect (class_of k)) (token k)
+pub law_expect : {P : Type 0} → (k : TokenKind) → IsOnly k → LawWhere P (no_else k) (is (class_of k)) any (expect (class_of k)) (token k)
 unfolding expect
 law_expect k o = record {
   sound = λ i at j h.
@@ -257,17 +274,17 @@ law_expect k o = record {
       omega arith;
   settles = settles_expect (class_of k) (not_end k o);
   moves = moves_token k;
-  recovers = recovers_first (expect (class_of k)) (token k) (λ i e h. refused_first (is (class_of k) (next_token i)) i e h);
-  ends = λ h. ends_token k h;
+  recovers = λ granted. recovers_first (expect (class_of k)) (token k) (λ i e h. refused_first (is (class_of k) (next_token i)) i e h);
+  ends = λ granted h. ends_token k h;
 }
 
-pub law_word : (v : WordSymbol) → Law (no_else (kind.Word v)) (is (next.Word v)) any (expect (next.Word v)) (rule.word v)
+pub law_word : {P : Type 0} → (v : WordSymbol) → LawWhere P (no_else (kind.Word v)) (is (next.Word v)) any (expect (next.Word v)) (rule.word v)
 law_word v = law_expect (kind.Word v) (word_only v)
 
-pub law_symbol : (v : Symbol) → Law true (is (next.Symbol v)) any (expect (next.Symbol v)) (rule.symbol v)
+pub law_symbol : {P : Type 0} → (v : Symbol) → LawWhere P true (is (next.Symbol v)) any (expect (next.Symbol v)) (rule.symbol v)
 law_symbol v = law_expect (kind.Symbol v) (symbol_only v)
 
-pub law_here : (g : Nexts) → Law true g g here rule.here
+pub law_here : {P : Type 0} → (g : Nexts) → LawWhere P true g g here rule.here
 law_here g = record {
   sound = λ i at j h. read_is i.at at i j h;
   complete = λ i at j d e. ap (λ n. read n i) d.0 ∙ ap (λ m. read at m) d.1;
@@ -275,8 +292,8 @@ law_here g = record {
   shrinks = λ i at j h. let e = ap (λ m. length m.rest) (read_is i.at at i j h).1 in omega arith;
   settles = settles_here;
   moves = moves_here;
-  recovers = λ i e h l. absurd (let n : ⊥ = cc in n);
-  ends = λ e. ends_here;
+  recovers = λ granted i e h l. absurd (let n : ⊥ = cc in n);
+  ends = λ granted e. ends_here;
 }
 
 -- what is never read
@@ -284,7 +301,7 @@ never_first : {A : Type 0} (i : Input) (e : Failure) → refuse {A = A} i ≡ st
 unfolding wrong left
 never_first {A} i e h = sym (ap place (failure_is {A = A} (wrong i) e h))
 
-pub law_never : {A : Type 0} (f g : Nexts) → Law false f g (refuse {A = A}) rule.none
+pub law_never : {P A : Type 0} (f g : Nexts) → LawWhere P false f g (refuse {A = A}) rule.none
 law_never {A} f g = record {
   sound = λ i x j h. absurd (let n : ⊥ = cc in n);
   complete = λ i x j d e. absurd d;
@@ -292,6 +309,6 @@ law_never {A} f g = record {
   shrinks = λ i x j h. absurd (let n : ⊥ = cc in n);
   settles = settles_wrong;
   moves = λ i x j d. absurd d;
-  recovers = recovers_first (refuse {A = A}) rule.none never_first;
-  ends = λ e. absurd (let n : ⊥ = cc in n);
+  recovers = λ granted. recovers_first (refuse {A = A}) rule.none never_first;
+  ends = λ granted e. absurd (let n : ⊥ = cc in n);
 }

@@ -24,7 +24,7 @@ use Rattle.mp_cursor.specs.Nexts.{any}
 use Rattle.mp_cursor.proofs.Settled.{Settled, stopped, place, settles_identifier, settles_number, settles_string, settles_directive, settles_opening}
 use Rattle.mp_cursor.proofs.Recovery.{no_else, failure_is, moves_token, ends_token, recovers_first}
 use Rattle.mp_cursor.proofs.NextSets.{within_any}
-use Rattle.mp_cursor.proofs.Laws.{not_end, Law, law_then, law_ends, both_ok, read, read_is, IsOnly, word_only, symbol_only, law_expect}
+use Rattle.mp_cursor.proofs.Laws.{not_end, LawWhere, law_then, law_ends, both_ok, read, read_is, IsOnly, word_only, symbol_only, law_expect}
 
 -- ---- leaves
 
@@ -82,7 +82,7 @@ identifier_first at declared (kind.Text v ∷ ks) e h = sym (ap place (failure_i
 identifier_first at declared (kind.Word v ∷ ks) e h = sym (ap place (failure_is {A = Identifier} (Wrong (length (kind.Word v ∷ ks))) e h))
 identifier_first at declared (kind.Symbol v ∷ ks) e h = sym (ap place (failure_is {A = Identifier} (Wrong (length (kind.Symbol v ∷ ks))) e h))
 
-pub law_identifier : Law true (is next.Identifier) any identifier leaf.identifier
+pub law_identifier : {P : Type 0} → LawWhere P true (is next.Identifier) any identifier leaf.identifier
 unfolding identifier next_token
 law_identifier = record {
   sound = λ i x j h. identifier_sound i.at i.declared i.rest x j h;
@@ -94,8 +94,8 @@ law_identifier = record {
   shrinks = λ i x j h. let e = ap (λ ks. length ks) (identifier_sound i.at i.declared i.rest x j h).0 in omega arith;
   settles = settles_identifier;
   moves = λ i x j d. (kind.Id x.name ∷ [], d.0, λ t h. (refl, d.1, d.2, d.3));
-  recovers = recovers_first identifier leaf.identifier (λ i e h. identifier_first i.at i.declared i.rest e h);
-  ends = λ e i. (kind.Id (97 ∷ []) ∷ [], an_identifier i.at (97 ∷ []), input (i.at + 1) i.declared [], λ t o. refl, λ t o. (refl, refl, refl, refl));
+  recovers = λ granted. recovers_first identifier leaf.identifier (λ i e h. identifier_first i.at i.declared i.rest e h);
+  ends = λ granted e i. (kind.Id (97 ∷ []) ∷ [], an_identifier i.at (97 ∷ []), input (i.at + 1) i.declared [], λ t o. refl, λ t o. (refl, refl, refl, refl));
 }
 
 number_first : (at declared : ℕ) (ks : List TokenKind) (e : Failure) → number_of at declared ks ≡ stopped e → place e ≡ length ks
@@ -106,7 +106,7 @@ number_first at declared (kind.Text v ∷ ks) e h = sym (ap place (failure_is {A
 number_first at declared (kind.Word v ∷ ks) e h = sym (ap place (failure_is {A = Number} (Wrong (length (kind.Word v ∷ ks))) e h))
 number_first at declared (kind.Symbol v ∷ ks) e h = sym (ap place (failure_is {A = Number} (Wrong (length (kind.Symbol v ∷ ks))) e h))
 
-pub law_number : Law true (is next.Number) any number leaf.number
+pub law_number : {P : Type 0} → LawWhere P true (is next.Number) any number leaf.number
 unfolding number next_token
 law_number = record {
   sound = λ i x j h. number_sound i.at i.declared i.rest x j h;
@@ -118,8 +118,8 @@ law_number = record {
   shrinks = λ i x j h. let e = ap (λ ks. length ks) (number_sound i.at i.declared i.rest x j h).0 in omega arith;
   settles = settles_number;
   moves = λ i x j d. (kind.Number x.value ∷ [], d.0, λ t h. (refl, d.1, d.2, d.3));
-  recovers = recovers_first number leaf.number (λ i e h. number_first i.at i.declared i.rest e h);
-  ends = λ e i. (kind.Number 1 ∷ [], a_number i.at 1, input (i.at + 1) i.declared [], λ t o. refl, λ t o. (refl, refl, refl, refl));
+  recovers = λ granted. recovers_first number leaf.number (λ i e h. number_first i.at i.declared i.rest e h);
+  ends = λ granted e i. (kind.Number 1 ∷ [], a_number i.at 1, input (i.at + 1) i.declared [], λ t o. refl, λ t o. (refl, refl, refl, refl));
 }
 
 string_first : (at declared : ℕ) (ks : List TokenKind) (e : Failure) → string_of at declared ks ≡ stopped e → place e ≡ length ks
@@ -130,7 +130,7 @@ string_first at declared (kind.Text v ∷ ks) e h = absurd (let n : ⊥ = cc in 
 string_first at declared (kind.Word v ∷ ks) e h = sym (ap place (failure_is {A = CharacterString} (Wrong (length (kind.Word v ∷ ks))) e h))
 string_first at declared (kind.Symbol v ∷ ks) e h = sym (ap place (failure_is {A = CharacterString} (Wrong (length (kind.Symbol v ∷ ks))) e h))
 
-pub law_string : Law true (is next.Text) any character_string leaf.character_string
+pub law_string : {P : Type 0} → LawWhere P true (is next.Text) any character_string leaf.character_string
 unfolding character_string next_token
 law_string = record {
   sound = λ i x j h. string_sound i.at i.declared i.rest x j h;
@@ -142,8 +142,8 @@ law_string = record {
   shrinks = λ i x j h. let e = ap (λ ks. length ks) (string_sound i.at i.declared i.rest x j h).0 in omega arith;
   settles = settles_string;
   moves = λ i x j d. (kind.Text x.characters ∷ [], d.0, λ t h. (refl, d.1, d.2, d.3));
-  recovers = recovers_first character_string leaf.character_string (λ i e h. string_first i.at i.declared i.rest e h);
-  ends = λ e i. (kind.Text (97 ∷ []) ∷ [], a_string i.at (97 ∷ []), input (i.at + 1) i.declared [], λ t o. refl, λ t o. (refl, refl, refl, refl));
+  recovers = λ granted. recovers_first character_string leaf.character_string (λ i e h. string_first i.at i.declared i.rest e h);
+  ends = λ granted e i. (kind.Text (97 ∷ []) ∷ [], a_string i.at (97 ∷ []), input (i.at + 1) i.declared [], λ t o. refl, λ t o. (refl, refl, refl, refl));
 }
 
 -- ---- directives
@@ -177,7 +177,7 @@ directive_first spelling at declared (kind.Text v ∷ ks) e h = sym (ap place (f
 directive_first spelling at declared (kind.Word v ∷ ks) e h = sym (ap place (failure_is {A = ℕ} (Wrong (length (kind.Word v ∷ ks))) e h))
 directive_first spelling at declared (kind.Symbol v ∷ ks) e h = sym (ap place (failure_is {A = ℕ} (Wrong (length (kind.Symbol v ∷ ks))) e h))
 
-pub law_directive : (spelling : List ℕ) → Law true (is next.Identifier) any (directive spelling) (token (kind.Id spelling))
+pub law_directive : {P : Type 0} → (spelling : List ℕ) → LawWhere P true (is next.Identifier) any (directive spelling) (token (kind.Id spelling))
 unfolding directive next_token
 law_directive spelling = record {
   sound = λ i x j h. directive_sound spelling i.at i.declared i.rest x j h;
@@ -190,8 +190,8 @@ law_directive spelling = record {
   shrinks = λ i x j h. let e = ap (λ ks. length ks) (directive_sound spelling i.at i.declared i.rest x j h).0 in omega arith;
   settles = settles_directive spelling;
   moves = moves_token (kind.Id spelling);
-  recovers = recovers_first (directive spelling) (token (kind.Id spelling)) (λ i e h. directive_first spelling i.at i.declared i.rest e h);
-  ends = λ e. ends_token (kind.Id spelling) refl;
+  recovers = λ granted. recovers_first (directive spelling) (token (kind.Id spelling)) (λ i e h. directive_first spelling i.at i.declared i.rest e h);
+  ends = λ granted e. ends_token (kind.Id spelling) refl;
 }
 
 -- ---- tokens that open
@@ -221,7 +221,7 @@ shut_opening : (k : TokenKind) (i : Input) (e : Failure) → opening zero (class
 unfolding opening
 shut_opening k i e h = shut_first (is (class_of k) (next_token i)) i e h
 
-pub law_opening : (k : TokenKind) → IsOnly k → (room : ℕ) → Law false (is (class_of k)) any (opening room (class_of k)) (rule.opener room k)
+pub law_opening : {P : Type 0} → (k : TokenKind) → IsOnly k → (room : ℕ) → LawWhere P false (is (class_of k)) any (opening room (class_of k)) (rule.opener room k)
 unfolding opening
 law_opening k o zero = record {
   sound = λ i at j h. absurd (never (is (class_of k) (next_token i)) i at j h);
@@ -230,8 +230,8 @@ law_opening k o zero = record {
   shrinks = λ i at j h. absurd (never (is (class_of k) (next_token i)) i at j h);
   settles = settles_opening zero (class_of k) (not_end k o);
   moves = λ i at j d. absurd d;
-  recovers = recovers_first (opening zero (class_of k)) (rule.opener zero k) (λ i e h. shut_first (is (class_of k) (next_token i)) i e h);
-  ends = λ e. absurd (let n : ⊥ = cc in n);
+  recovers = λ granted. recovers_first (opening zero (class_of k)) (rule.opener zero k) (λ i e h. shut_first (is (class_of k) (next_token i)) i e h);
+  ends = λ granted e. absurd (let n : ⊥ = cc in n);
 }
 law_opening k o (suc room) =
     let a = law_expect k o in
@@ -242,8 +242,8 @@ law_opening k o (suc room) =
       shrinks = λ i at j h. a.shrinks i at j (sym (opens_with_room room (class_of k) i) ∙ h);
       settles = settles_opening (suc room) (class_of k) (not_end k o);
       moves = moves_token k;
-      recovers = λ i e h. a.recovers i e (sym (opens_with_room room (class_of k) i) ∙ h);
-      ends = λ e. absurd (let n : ⊥ = cc in n);
+      recovers = λ granted i e h. a.recovers granted i e (sym (opens_with_room room (class_of k) i) ∙ h);
+      ends = λ granted e. absurd (let n : ⊥ = cc in n);
     }
 
 shut_behind : {B : Type 0} (q : ℕ → Parser B) (o : Outcome ℕ) (i : Input) (e : Failure) → ((at : ℕ) (j : Input) → o ≡ read at j → ⊥) → ((f : Failure) → o ≡ stopped f → place f ≡ length i.rest) → and_then o q ≡ stopped e → place e ≡ length i.rest
@@ -255,9 +255,9 @@ stuck_by p q i (Ok x) s h = absurd (h x.0 x.1 refl)
 stuck_by p q i (Err e) s h = (s.0, s.1, s.2, s.3, λ more g. ap (λ o. and_then o q) (s.4 more g))
 
 -- an opener, and what stands behind it where there is room for it
-pub law_opened : {B : Type 0} {f h : Nexts} {q : ℕ → Parser B} {s : ℕ → Rule B} (k : TokenKind) → IsOnly k → no_else k ≡ true → (room : ℕ) → ((n : ℕ) → room ≡ suc n → (at : ℕ) → Law true f h (q at) (s at)) → Law (has_room room) (is (class_of k)) h (opening room (class_of k) >>= q) (rule.opener room k >>=ʳ s)
+pub law_opened : {P B : Type 0} {f h : Nexts} {q : ℕ → Parser B} {s : ℕ → Rule B} (k : TokenKind) → IsOnly k → no_else k ≡ true → (room : ℕ) → ((n : ℕ) → room ≡ suc n → (at : ℕ) → LawWhere P true f h (q at) (s at)) → LawWhere P (has_room room) (is (class_of k)) h (opening room (class_of k) >>= q) (rule.opener room k >>=ʳ s)
 law_opened {q = q} {s = s} k o other zero a =
-    let w = law_opening k o zero in
+    let w = law_opening {P = Unit {0}} k o zero in
     record {
       sound = λ i x j e. let u = both_ok (opening zero (class_of k) i) q x j e in absurd (w.sound i u.0 u.1 u.2);
       complete = λ i x j d e. absurd d.2;
@@ -265,13 +265,13 @@ law_opened {q = q} {s = s} k o other zero a =
       shrinks = λ i x j e. let u = both_ok (opening zero (class_of k) i) q x j e in absurd (w.sound i u.0 u.1 u.2);
       settles = λ i. stuck_by (opening zero (class_of k)) q i (opening zero (class_of k) i) (w.settles i) (λ at j e. w.sound i at j e);
       moves = λ i x j d. absurd d.2;
-      recovers = recovers_first (opening zero (class_of k) >>= q) (rule.opener zero k >>=ʳ s) (λ i e u. shut_behind q (opening zero (class_of k) i) i e (λ at j g. w.sound i at j g) (λ f g. shut_opening k i f g) u);
-      ends = λ e. absurd (let n : ⊥ = cc in n);
+      recovers = λ granted. recovers_first (opening zero (class_of k) >>= q) (rule.opener zero k >>=ʳ s) (λ i e u. shut_behind q (opening zero (class_of k) i) i e (λ at j g. w.sound i at j g) (λ f g. shut_opening k i f g) u);
+      ends = λ granted e. absurd (let n : ⊥ = cc in n);
     }
-law_opened {f = f} k o other (suc room) a = law_then (law_ends (ends_token k other) (law_opening k o (suc room))) (within_any f) (λ at. a room refl at)
+law_opened {f = f} k o other (suc room) a = law_then (law_ends (λ granted. ends_token k other) (law_opening k o (suc room))) (within_any f) (λ at. a room refl at)
 
-pub law_opened_word : {B : Type 0} {f h : Nexts} {q : ℕ → Parser B} {s : ℕ → Rule B} (v : WordSymbol) → no_else (kind.Word v) ≡ true → (room : ℕ) → ((n : ℕ) → room ≡ suc n → (at : ℕ) → Law true f h (q at) (s at)) → Law (has_room room) (is (next.Word v)) h (opening room (next.Word v) >>= q) (rule.opener room (kind.Word v) >>=ʳ s)
+pub law_opened_word : {P B : Type 0} {f h : Nexts} {q : ℕ → Parser B} {s : ℕ → Rule B} (v : WordSymbol) → no_else (kind.Word v) ≡ true → (room : ℕ) → ((n : ℕ) → room ≡ suc n → (at : ℕ) → LawWhere P true f h (q at) (s at)) → LawWhere P (has_room room) (is (next.Word v)) h (opening room (next.Word v) >>= q) (rule.opener room (kind.Word v) >>=ʳ s)
 law_opened_word v other room a = law_opened (kind.Word v) (word_only v) other room a
 
-pub law_opened_symbol : {B : Type 0} {f h : Nexts} {q : ℕ → Parser B} {s : ℕ → Rule B} (v : Symbol) (room : ℕ) → ((n : ℕ) → room ≡ suc n → (at : ℕ) → Law true f h (q at) (s at)) → Law (has_room room) (is (next.Symbol v)) h (opening room (next.Symbol v) >>= q) (rule.opener room (kind.Symbol v) >>=ʳ s)
+pub law_opened_symbol : {P B : Type 0} {f h : Nexts} {q : ℕ → Parser B} {s : ℕ → Rule B} (v : Symbol) (room : ℕ) → ((n : ℕ) → room ≡ suc n → (at : ℕ) → LawWhere P true f h (q at) (s at)) → LawWhere P (has_room room) (is (next.Symbol v)) h (opening room (next.Symbol v) >>= q) (rule.opener room (kind.Symbol v) >>=ʳ s)
 law_opened_symbol v room a = law_opened (kind.Symbol v) (symbol_only v) refl room a

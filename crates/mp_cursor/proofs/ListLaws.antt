@@ -21,14 +21,14 @@ use Rattle.mp_cursor.proofs.Settled.{settles_repeated}
 use Rattle.mp_cursor.specs.declared.failure.Failure.{Failure}
 use Rattle.mp_cursor.proofs.Settled.{place, stopped}
 use Rattle.mp_cursor.proofs.Recovery.{no_else, failure_is, Taken, Ends, Recovers, Front, Stops, stops_where, front_as, front_first, front_second, front_between, moves_then, ends_then, moves_pure, ends_pure, moves_many, ends_many}
-use Rattle.mp_cursor.proofs.Laws.{not_end, Law, read, read_is, both_ok, law_then, law_map, law_as, law_expect, IsOnly, word_only, symbol_only, token_falls}
+use Rattle.mp_cursor.proofs.Laws.{not_end, LawWhere, Law, read, read_is, both_ok, law_then, law_map, law_as, law_expect, IsOnly, word_only, symbol_only, token_falls}
 
 -- a parser that takes a token at least
 pub record Falls {A : Type 0} (p : Parser A) : Type 0 where
   pub by : (i : Input) (x : A) (j : Input) → p i ≡ read x j → length j.rest < length i.rest
 
 pub falls_expect : (k : TokenKind) → IsOnly k → Falls (expect (class_of k))
-falls_expect k o = record { by = λ i at j h. token_falls k i at j ((law_expect k o).sound i at j h) }
+falls_expect k o = record { by = λ i at j h. token_falls k i at j ((law_expect {P = Unit {0}} k o).sound i at j h) }
 
 pub falls_word : (v : WordSymbol) → Falls (expect (next.Word v))
 falls_word v = falls_expect (kind.Word v) (word_only v)
@@ -37,10 +37,10 @@ pub falls_symbol : (v : Symbol) → Falls (expect (next.Symbol v))
 falls_symbol v = falls_expect (kind.Symbol v) (symbol_only v)
 
 pub falls_opening : (room : ℕ) (k : TokenKind) → IsOnly k → Falls (opening room (class_of k))
-falls_opening zero k o = record { by = λ i at j h. absurd ((law_opening k o zero).sound i at j h) }
-falls_opening (suc room) k o = record { by = λ i at j h. token_falls k i at j ((law_opening k o (suc room)).sound i at j h) }
+falls_opening zero k o = record { by = λ i at j h. absurd ((law_opening {P = Unit {0}} k o zero).sound i at j h) }
+falls_opening (suc room) k o = record { by = λ i at j h. token_falls k i at j ((law_opening {P = Unit {0}} k o (suc room)).sound i at j h) }
 
-pub falls_then : {A B : Type 0} {u : Bool} {f g : Nexts} {p : Parser A} {q : A → Parser B} {s : A → Rule B} → Falls p → ((x : A) → Law u f g (q x) (s x)) → Falls (p >>= q)
+pub falls_then : {P A B : Type 0} {u : Bool} {f g : Nexts} {p : Parser A} {q : A → Parser B} {s : A → Rule B} → Falls p → ((x : A) → LawWhere P u f g (q x) (s x)) → Falls (p >>= q)
 falls_then {p = p} {q = q} a b = record {
   by = λ i y j h.
       let o = both_ok (p i) q y j h in
@@ -50,12 +50,12 @@ falls_then {p = p} {q = q} a b = record {
 }
 
 -- an opener and what stands behind it
-pub falls_opened : {B : Type 0} {u : Bool} {f h : Nexts} {q : ℕ → Parser B} {s : ℕ → Rule B} (k : TokenKind) → IsOnly k → (room : ℕ) → ((n : ℕ) → room ≡ suc n → (at : ℕ) → Law u f h (q at) (s at)) → Falls (opening room (class_of k) >>= q)
-falls_opened {q = q} k o zero a = record { by = λ i x j e. let w = both_ok (opening zero (class_of k) i) q x j e in absurd ((law_opening k o zero).sound i w.0 w.1 w.2) }
+pub falls_opened : {P B : Type 0} {u : Bool} {f h : Nexts} {q : ℕ → Parser B} {s : ℕ → Rule B} (k : TokenKind) → IsOnly k → (room : ℕ) → ((n : ℕ) → room ≡ suc n → (at : ℕ) → LawWhere P u f h (q at) (s at)) → Falls (opening room (class_of k) >>= q)
+falls_opened {q = q} k o zero a = record { by = λ i x j e. let w = both_ok (opening zero (class_of k) i) q x j e in absurd ((law_opening {P = Unit {0}} k o zero).sound i w.0 w.1 w.2) }
 falls_opened k o (suc room) a = falls_then (falls_opening (suc room) k o) (a room refl)
 
 -- what takes a token behind another parser
-pub falls_last : {A B : Type 0} {u : Bool} {f g : Nexts} {p : Parser A} {r : Rule A} {q : A → Parser B} → Law u f g p r → ((x : A) → Falls (q x)) → Falls (p >>= q)
+pub falls_last : {P A B : Type 0} {u : Bool} {f g : Nexts} {p : Parser A} {r : Rule A} {q : A → Parser B} → LawWhere P u f g p r → ((x : A) → Falls (q x)) → Falls (p >>= q)
 falls_last {p = p} {q = q} a b = record {
   by = λ i y j h.
       let o = both_ok (p i) q y j h in
@@ -65,10 +65,10 @@ falls_last {p = p} {q = q} a b = record {
 }
 
 pub falls_identifier : Falls identifier
-falls_identifier = record { by = λ i x j h. token_falls (kind.Id x.name) i x.at j (law_identifier.sound i x j h) }
+falls_identifier = record { by = λ i x j h. token_falls (kind.Id x.name) i x.at j ((law_identifier {P = Unit {0}}).sound i x j h) }
 
 pub falls_number : Falls number
-falls_number = record { by = λ i x j h. token_falls (kind.Number x.value) i x.at j (law_number.sound i x j h) }
+falls_number = record { by = λ i x j h. token_falls (kind.Number x.value) i x.at j ((law_number {P = Unit {0}}).sound i x j h) }
 
 falls_by : {A : Type 0} {p q : Parser A} → Falls p → Falls q → (i : Input) (x : A) (j : Input) (b : Bool) → (if b then p i else q i) ≡ read x j → length j.rest < length i.rest
 falls_by a c i x j true h = a.by i x j h
@@ -95,7 +95,7 @@ abbrev pub all_added : {A B : Type 0} → (B → A → B) → B → List A → B
 all_added add found [] = found
 all_added add found (x ∷ xs) = all_added add (add found x) xs
 
-module _ {A B : Type 0} {u : Bool} {first inner : Nexts} {p : Parser A} {r : Rule A} (add : B → A → B) (test follow : Nexts) (a : Law u first inner p r) (falls : Falls p) (begins : within first test ≡ true) (stops : apart follow test ≡ true) (again : within first inner ≡ true) (last : within follow inner ≡ true) (ends : test next.End ≡ false) where
+module _ {P A B : Type 0} {u : Bool} {first inner : Nexts} {p : Parser A} {r : Rule A} (add : B → A → B) (test follow : Nexts) (a : LawWhere P u first inner p r) (falls : Falls p) (begins : within first test ≡ true) (stops : apart follow test ≡ true) (again : within first inner ≡ true) (last : within follow inner ≡ true) (ends : test next.End ≡ false) where
   abbrev Added : B → Input → B → Input → Type 0
   Added found i y j = (xs : List A) × Many r j xs i × (all_added add found xs ≡ y)
 
@@ -170,13 +170,13 @@ module _ {A B : Type 0} {u : Bool} {first inner : Nexts} {p : Parser A} {r : Rul
   ends_all found = ends_then (many r) (λ xs. gives (all_added add found xs)) (ends_many r) (λ xs. ends_pure (all_added add found xs))
 
   -- an item stops, or what follows it
-  turn_stops : (rest : B → Parser B) (found : B) (i : Input) (e : Failure) → ((z : B) → Stops (rest z) (All z)) → (o : Outcome A) → p i ≡ o → and_then (and_then o (λ x. pure (add found x))) rest ≡ stopped e → ((place e < length i.rest) × Front (All found) i (place e)) ⊎ (place e ≡ length i.rest)
-  turn_stops rest found i e ih (Err f) g h = stopped_first (stops_where p r a.settles a.recovers i e (g ∙ ap stopped (failure_is {A = B} f e h)))
+  turn_stops : P → (rest : B → Parser B) (found : B) (i : Input) (e : Failure) → ((z : B) → Stops (rest z) (All z)) → (o : Outcome A) → p i ≡ o → and_then (and_then o (λ x. pure (add found x))) rest ≡ stopped e → ((place e < length i.rest) × Front (All found) i (place e)) ⊎ (place e ≡ length i.rest)
+  turn_stops granted rest found i e ih (Err f) g h = stopped_first (stops_where p r a.settles (a.recovers granted) i e (g ∙ ap stopped (failure_is {A = B} f e h)))
     where
       stopped_first : ((place e < length i.rest) × Front r i (place e)) ⊎ (place e ≡ length i.rest) → ((place e < length i.rest) × Front (All found) i (place e)) ⊎ (place e ≡ length i.rest)
       stopped_first (inl w) = inl (w.0, front_as (r >>=ʳ (λ x. All (add found x))) (All found) i (place e) (in_front found) (front_first r (λ x. All (add found x)) i (place e) w.1 (λ x. ends_all (add found x))))
       stopped_first (inr w) = inr w
-  turn_stops rest found i e ih (Ok x) g h = stopped_second (ih (add found x.0) x.1 e h)
+  turn_stops granted rest found i e ih (Ok x) g h = stopped_second (ih (add found x.0) x.1 e h)
     where
       l : length x.1.rest < length i.rest
       l = falls.by i x.0 x.1 g
@@ -188,25 +188,25 @@ module _ {A B : Type 0} {u : Bool} {first inner : Nexts} {p : Parser A} {r : Rul
       stopped_second (inl w) = let k = w.0 in inl (omega (arith, k, l), front_as (r >>=ʳ (λ x. All (add found x))) (All found) i (place e) (in_front found) (front_second r (λ x. All (add found x)) i x.0 x.1 (place e) taken w.1 w.0))
       stopped_second (inr w) = inl (omega (arith, w, l), front_as (r >>=ʳ (λ x. All (add found x))) (All found) i (place e) (in_front found) (front_between r (λ x. All (add found x)) i x.0 x.1 (place e) taken (ends_all (add found x.0) x.1) w))
 
-  loop_by : (rest : B → Parser B) (found : B) (i : Input) (e : Failure) → ((z : B) → Stops (rest z) (All z)) → (b : Bool) → (if b then (adding add p found >>= rest) i else read found i) ≡ stopped e → ((place e < length i.rest) × Front (All found) i (place e)) ⊎ (place e ≡ length i.rest)
-  loop_by rest found i e ih true h = turn_stops rest found i e ih (p i) refl h
-  loop_by rest found i e ih false h = absurd (let n : ⊥ = cc in n)
+  loop_by : P → (rest : B → Parser B) (found : B) (i : Input) (e : Failure) → ((z : B) → Stops (rest z) (All z)) → (b : Bool) → (if b then (adding add p found >>= rest) i else read found i) ≡ stopped e → ((place e < length i.rest) × Front (All found) i (place e)) ⊎ (place e ≡ length i.rest)
+  loop_by granted rest found i e ih true h = turn_stops granted rest found i e ih (p i) refl h
+  loop_by granted rest found i e ih false h = absurd (let n : ⊥ = cc in n)
 
-  loop_stops : (n : ℕ) (found : B) → Stops (loop test (adding add p) n found) (All found)
+  loop_stops : P → (n : ℕ) (found : B) → Stops (loop test (adding add p) n found) (All found)
   unfolding loop
-  loop_stops zero found i e h = absurd (let n : ⊥ = cc in n)
-  loop_stops (suc n) found i e h = loop_by (loop test (adding add p) n) found i e (λ z. loop_stops n z) (test (next_token i)) h
+  loop_stops granted zero found i e h = absurd (let n : ⊥ = cc in n)
+  loop_stops granted (suc n) found i e h = loop_by granted (loop test (adding add p) n) found i e (λ z. loop_stops granted n z) (test (next_token i)) h
 
-  loop_recovers : (found : B) → Recovers (repeated test (adding add p) found) (All found)
+  loop_recovers : P → (found : B) → Recovers (repeated test (adding add p) found) (All found)
   unfolding repeated left
-  loop_recovers found i e h l = front_of (loop_stops (length i.rest) found i e h)
+  loop_recovers granted found i e h l = front_of (loop_stops granted (length i.rest) found i e h)
     where
       front_of : ((place e < length i.rest) × Front (All found) i (place e)) ⊎ (place e ≡ length i.rest) → Front (All found) i (place e)
       front_of (inl w) = w.1
       front_of (inr w) = absurd (let n : ⊥ = omega (arith, w, l) in n)
 
   -- a list, each item of which is added to what was found
-  pub law_repeated : (found : B) → Law true (either first follow) follow (repeated test (adding add p) found) ((λ xs. all_added add found xs) <$>ʳ many r)
+  pub law_repeated : (found : B) → LawWhere P true (either first follow) follow (repeated test (adding add p) found) ((λ xs. all_added add found xs) <$>ʳ many r)
   unfolding repeated left
   law_repeated found = record {
     sound = λ i y j h. let w = loop_sound (length i.rest) found i y j h in (w.0, j, w.1, (w.2, refl));
@@ -217,8 +217,8 @@ module _ {A B : Type 0} {u : Bool} {first inner : Nexts} {p : Parser A} {r : Rul
     shrinks = λ i y j h. loop_shrinks (length i.rest) found i y j h;
     settles = settles_repeated test (adding add p) ends turn_falls (λ x. (law_map (λ y. add x y) a).settles) found;
     moves = moves_then (many r) (λ xs. gives (all_added add found xs)) (λ i xs j d. moves_many r a.moves j xs i d) (λ xs. moves_pure (all_added add found xs));
-    recovers = loop_recovers found;
-    ends = λ e. ends_all found;
+    recovers = λ granted. loop_recovers granted found;
+    ends = λ granted e. ends_all found;
   }
 
 -- ---- items
@@ -237,28 +237,28 @@ pub lists_added : {A : Type 0} (found : List A) (lists : List (List A)) → all_
 lists_added found [] = sym (append-nil found)
 lists_added found (xs ∷ lists) = lists_added (found ++ xs) lists ∙ append_assoc found xs (joined lists)
 
-module _ {A : Type 0} {u : Bool} {first inner : Nexts} {p : Parser A} {r : Rule A} (test follow : Nexts) (a : Law u first inner p r) (falls : Falls p) (begins : within first test ≡ true) (stops : apart follow test ≡ true) (again : within first inner ≡ true) (last : within follow inner ≡ true) (ends : test next.End ≡ false) where
-  pub law_many_from : (found : List A) → Law true (either first follow) follow (repeated test (and_one p) found) ((λ xs. found ++ xs) <$>ʳ many r)
+module _ {P A : Type 0} {u : Bool} {first inner : Nexts} {p : Parser A} {r : Rule A} (test follow : Nexts) (a : LawWhere P u first inner p r) (falls : Falls p) (begins : within first test ≡ true) (stops : apart follow test ≡ true) (again : within first inner ≡ true) (last : within follow inner ≡ true) (ends : test next.End ≡ false) where
+  pub law_many_from : (found : List A) → LawWhere P true (either first follow) follow (repeated test (and_one p) found) ((λ xs. found ++ xs) <$>ʳ many r)
   law_many_from found = law_as (same_value _ _ (ones_added found)) (law_repeated one_at_the_end test follow a falls begins stops again last ends found)
 
-  pub law_many : Law true (either first follow) follow (repeated test (and_one p) []) (many r)
+  pub law_many : LawWhere P true (either first follow) follow (repeated test (and_one p) []) (many r)
   law_many = law_as same_itself (law_many_from [])
 
-module _ {A : Type 0} {u : Bool} {first inner : Nexts} {p : Parser (List A)} {r : Rule (List A)} (test follow : Nexts) (a : Law u first inner p r) (falls : Falls p) (begins : within first test ≡ true) (stops : apart follow test ≡ true) (again : within first inner ≡ true) (last : within follow inner ≡ true) (ends : test next.End ≡ false) where
-  pub law_many_lists : Law true (either first follow) follow (repeated test (and_all p) []) (many_lists r)
+module _ {P A : Type 0} {u : Bool} {first inner : Nexts} {p : Parser (List A)} {r : Rule (List A)} (test follow : Nexts) (a : LawWhere P u first inner p r) (falls : Falls p) (begins : within first test ≡ true) (stops : apart follow test ≡ true) (again : within first inner ≡ true) (last : within follow inner ≡ true) (ends : test next.End ≡ false) where
+  pub law_many_lists : LawWhere P true (either first follow) follow (repeated test (and_all p) []) (many_lists r)
   law_many_lists = law_as (same_value _ _ (lists_added [])) (law_repeated all_at_the_end test follow a falls begins stops again last ends [])
 
 -- ---- separators
 
-module _ {A : Type 0} {first inner : Nexts} {p : Parser A} {r : Rule A} (k : TokenKind) (o : IsOnly k) (a : Law true first inner p r) where
+module _ {P A : Type 0} {first inner : Nexts} {p : Parser A} {r : Rule A} (k : TokenKind) (o : IsOnly k) (a : LawWhere P true first inner p r) where
   -- a separator and an item
-  pub law_further : Law (no_else k) (is (class_of k)) inner (expect (class_of k) >> p) (token k >>ʳ r)
+  pub law_further : LawWhere P (no_else k) (is (class_of k)) inner (expect (class_of k) >> p) (token k >>ʳ r)
   law_further = law_then (law_expect k o) (within_any first) (λ at. a)
 
   pub falls_further : Falls (expect (class_of k) >> p)
   falls_further = falls_then (falls_expect k o) (λ at. a)
 
-module _ {A : Type 0} {first inner : Nexts} {p : Parser A} {r : Rule A} (k : TokenKind) (o : IsOnly k) (follow : Nexts) (a : Law true first inner p r) (stops : apart follow (is (class_of k)) ≡ true) (again : within (is (class_of k)) inner ≡ true) (last : within follow inner ≡ true) where
-  pub law_separated : Law true first follow (separated (class_of k) p) (rule.separated (token k) r)
+module _ {P A : Type 0} {first inner : Nexts} {p : Parser A} {r : Rule A} (k : TokenKind) (o : IsOnly k) (follow : Nexts) (a : LawWhere P true first inner p r) (stops : apart follow (is (class_of k)) ≡ true) (again : within (is (class_of k)) inner ≡ true) (last : within follow inner ≡ true) where
+  pub law_separated : LawWhere P true first follow (separated (class_of k) p) (rule.separated (token k) r)
   law_separated = law_then a (within_both (is (class_of k)) follow inner again last) (λ x.
       law_many_from (is (class_of k)) follow (law_further k o a) (falls_further k o a) (within_itself (is (class_of k))) stops again last (not_end k o) (x ∷ []))

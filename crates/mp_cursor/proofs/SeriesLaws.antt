@@ -16,9 +16,9 @@ use Rattle.mp_cursor.proofs.Settled.{settles_series}
 use Rattle.mp_cursor.specs.declared.failure.Failure.{Failure}
 use Rattle.mp_cursor.proofs.Settled.{place, stopped, put}
 use Rattle.mp_cursor.proofs.Recovery.{failure_is, open_instead, Moves, Taken, Ends, Front, Stops, stops_where, front_as, front_first, front_second, front_between, moves_then, moves_or, moves_pure, moves_many, moves_token}
-use Rattle.mp_cursor.proofs.Laws.{expect_first, not_end, law_map, Law, Same, read, read_is, both_ok, law_then, law_as, law_expect, IsOnly, token_falls}
+use Rattle.mp_cursor.proofs.Laws.{expect_first, not_end, law_map, LawWhere, Same, read, read_is, both_ok, law_then, law_as, law_expect, IsOnly, token_falls}
 
-module _ {A : Type 0} {u : Bool} {first inner : Nexts} {p : Parser A} {r : Rule A} (k : TokenKind) (o : IsOnly k) (test follow : Nexts) (a : Law u first inner p r) (begins : within first test ≡ true) (stops : apart follow (is (class_of k)) ≡ true) (ends : apart follow test ≡ true) (again : within (is (class_of k)) inner ≡ true) (last : within follow inner ≡ true) where
+module _ {P A : Type 0} {u : Bool} {first inner : Nexts} {p : Parser A} {r : Rule A} (k : TokenKind) (o : IsOnly k) (test follow : Nexts) (a : LawWhere P u first inner p r) (begins : within first test ≡ true) (stops : apart follow (is (class_of k)) ≡ true) (ends : apart follow test ≡ true) (again : within (is (class_of k)) inner ≡ true) (last : within follow inner ≡ true) where
   abbrev n : Next
   n = class_of k
 
@@ -60,7 +60,7 @@ module _ {A : Type 0} {u : Bool} {first inner : Nexts} {p : Parser A} {r : Rule 
   turn_sound : (more : List A → Parser (List A)) (found : List A) (i : Input) (ys : List A) (j : Input) → ((z : List A) (l : Input) → more z l ≡ read ys j → Tail z l ys j) → (b : Bool) → (if b then (expect n >> branch test (and_one p found >>= more) (pure found)) i else read found i) ≡ read ys j → Tail found i ys j
   turn_sound more found i ys j ih true h =
       let w = both_ok (expect n i) (λ at. branch test (and_one p found >>= more) (pure found)) ys j h in
-      behind_sound more found i w.0 w.1 ys j ((law_expect k o).sound i w.0 w.1 w.2) ih (test (next_token w.1)) w.3
+      behind_sound more found i w.0 w.1 ys j ((law_expect {P = Unit {0}} k o).sound i w.0 w.1 w.2) ih (test (next_token w.1)) w.3
   turn_sound more found i ys j ih false h =
       let w = read_is found ys i j h in
       nothing found i ys j (subst (λ l. tail i [] l) w.1 (tail_end i)) w.0
@@ -85,7 +85,7 @@ module _ {A : Type 0} {u : Bool} {first inner : Nexts} {p : Parser A} {r : Rule 
   turn_shrinks : (more : List A → Parser (List A)) (found : List A) (i : Input) (ys : List A) (j : Input) → ((z : List A) (l : Input) → more z l ≡ read ys j → length j.rest ≤ length l.rest) → (b : Bool) → (if b then (expect n >> branch test (and_one p found >>= more) (pure found)) i else read found i) ≡ read ys j → length j.rest ≤ length i.rest
   turn_shrinks more found i ys j ih true h =
       let w = both_ok (expect n i) (λ at. branch test (and_one p found >>= more) (pure found)) ys j h in
-      let e = (law_expect k o).shrinks i w.0 w.1 w.2 in
+      let e = (law_expect {P = Unit {0}} k o).shrinks i w.0 w.1 w.2 in
       let f = behind_shrinks more found w.1 ys j ih (test (next_token w.1)) w.3 in
       omega arith
   turn_shrinks more found i ys j ih false h = let e = ap (λ l. length l.rest) (read_is found ys i j h).1 in omega arith
@@ -98,7 +98,7 @@ module _ {A : Type 0} {u : Bool} {first inner : Nexts} {p : Parser A} {r : Rule 
   -- ---- what the rule allows is read
 
   sees : (i : Input) (at : ℕ) (m : Input) → token k i at m → is n (next_token i) ≡ true
-  sees i at m d = (law_expect k o).begins i at m d refl
+  sees i at m d = (law_expect {P = Unit {0}} k o).begins i at m d refl
 
   -- where the items end
   last_of : (i : Input) (at : Option ℕ) (j : Input) → optional (token k) i at j → follow (next_token j) ≡ true → either (is n) follow (next_token i) ≡ true
@@ -118,7 +118,7 @@ module _ {A : Type 0} {u : Bool} {first inner : Nexts} {p : Parser A} {r : Rule 
   last_read (suc count) found i at j (inl d) e l =
       let v = ap (λ m. follow (next_token m)) d.3.1 ∙ e in
       ap (λ b. if b then (expect n >> branch test (and_one p found >>= rest count) (pure found)) i else read found i) (sees i d.0 d.1 d.2)
-      ∙ ap (λ u. and_then u (λ at. branch test (and_one p found >>= rest count) (pure found))) ((law_expect k o).complete i d.0 d.1 d.2 refl)
+      ∙ ap (λ u. and_then u (λ at. branch test (and_one p found >>= rest count) (pure found))) ((law_expect {P = Unit {0}} k o).complete i d.0 d.1 d.2 refl)
       ∙ ap (λ b. if b then (and_one p found >>= rest count) d.1 else read found d.1) (apart_is follow test ends (next_token d.1) v)
       ∙ ap (λ m. read found m) d.3.1
   last_read zero found i at j (inr d) e l = ap (λ m. read found m) d.1
@@ -136,14 +136,14 @@ module _ {A : Type 0} {u : Bool} {first inner : Nexts} {p : Parser A} {r : Rule 
       let f = token_falls k i d.0 d.1 d.2 in
       let g = a.shrinks d.1 x m u in
       ap (λ b. if b then (expect n >> branch test (and_one p found >>= rest count) (pure found)) i else read found i) (sees i d.0 d.1 d.2)
-      ∙ ap (λ z. and_then z (λ at. branch test (and_one p found >>= rest count) (pure found))) ((law_expect k o).complete i d.0 d.1 d.2 refl)
+      ∙ ap (λ z. and_then z (λ at. branch test (and_one p found >>= rest count) (pure found))) ((law_expect {P = Unit {0}} k o).complete i d.0 d.1 d.2 refl)
       ∙ ap (λ b. if b then (and_one p found >>= rest count) d.1 else read found d.1) (within_is first test begins (next_token d.1) (a.begins d.1 x m d.3 w))
       ∙ ap (λ z. and_then (and_then z (λ x. pure (found ++ x ∷ []))) (rest count)) u
       ∙ series_complete at l j c e count (found ++ x ∷ []) xs m ds (omega arith)
       ∙ ap (λ z. read z j) (append_assoc found (x ∷ []) xs)
 
   expect_falls : (i : Input) (at : ℕ) (j : Input) → expect n i ≡ read at j → length j.rest < length i.rest
-  expect_falls i at j h = token_falls k i at j ((law_expect k o).sound i at j h)
+  expect_falls i at j h = token_falls k i at j ((law_expect {P = Unit {0}} k o).sound i at j h)
 
   one_shrinks : (x : List A) (i : Input) (y : List A) (j : Input) → and_one p x i ≡ read y j → length j.rest ≤ length i.rest
   one_shrinks x i y j h = (law_map (λ z. x ++ z ∷ []) a).shrinks i y j h
@@ -181,8 +181,8 @@ module _ {A : Type 0} {u : Bool} {first inner : Nexts} {p : Parser A} {r : Rule 
   abbrev Inside : List A → Input → Failure → Type 0
   Inside found i e = ((place e < length i.rest) × Front (All found) i (place e)) ⊎ (place e ≡ length i.rest)
 
-  item_stops : (rest : List A → Parser (List A)) (found : List A) (i : Input) (at : ℕ) (m : Input) (e : Failure) → token k i at m → ((z : List A) → Stops (rest z) (All z)) → (o : Outcome A) → p m ≡ o → and_then (and_then o (λ x. pure (found ++ x ∷ []))) rest ≡ stopped e → Inside found i e
-  item_stops more found i at m e d ih (Err f) g h = first_stops (stops_where p r a.settles a.recovers m e (g ∙ ap stopped (failure_is {A = List A} f e h)))
+  item_stops : P → (rest : List A → Parser (List A)) (found : List A) (i : Input) (at : ℕ) (m : Input) (e : Failure) → token k i at m → ((z : List A) → Stops (rest z) (All z)) → (o : Outcome A) → p m ≡ o → and_then (and_then o (λ x. pure (found ++ x ∷ []))) rest ≡ stopped e → Inside found i e
+  item_stops granted more found i at m e d ih (Err f) g h = first_stops (stops_where p r a.settles (a.recovers granted) m e (g ∙ ap stopped (failure_is {A = List A} f e h)))
     where
       l : length m.rest < length i.rest
       l = token_falls k i at m d
@@ -193,7 +193,7 @@ module _ {A : Type 0} {u : Bool} {first inner : Nexts} {p : Parser A} {r : Rule 
           inl (omega (arith, v, l), front_as ((token k >>ʳ r) >>=ʳ (λ x. All (found ++ x ∷ []))) (All found) i (place e) (in_front found)
           (front_first (token k >>ʳ r) (λ x. All (found ++ x ∷ [])) i (place e) (front_second (token k) (λ at. r) i at m (place e) (moves_token k i at m d) w.1 w.0) (λ x. ends_all (found ++ x ∷ []))))
       first_stops (inr w) = inl (omega (arith, w, l), subst (Front (All found) i) (sym w) (after_separator found i at m d))
-  item_stops more found i at m e d ih (Ok x) g h = second_stops (ih (found ++ x.0 ∷ []) x.1 e h)
+  item_stops granted more found i at m e d ih (Ok x) g h = second_stops (ih (found ++ x.0 ∷ []) x.1 e h)
     where
       l : length m.rest < length i.rest
       l = token_falls k i at m d
@@ -213,28 +213,28 @@ module _ {A : Type 0} {u : Bool} {first inner : Nexts} {p : Parser A} {r : Rule 
           inl (omega (arith, w, l, n_), front_as ((token k >>ʳ r) >>=ʳ (λ x. All (found ++ x ∷ []))) (All found) i (place e) (in_front found)
           (front_between (token k >>ʳ r) (λ x. All (found ++ x ∷ [])) i x.0 x.1 (place e) taken (ends_all (found ++ x.0 ∷ []) x.1) w))
 
-  behind_stops : (more : List A → Parser (List A)) (found : List A) (i : Input) (at : ℕ) (m : Input) (e : Failure) → token k i at m → ((z : List A) → Stops (more z) (All z)) → (b : Bool) → (if b then (and_one p found >>= more) m else read found m) ≡ stopped e → Inside found i e
-  behind_stops more found i at m e d ih true h = item_stops more found i at m e d ih (p m) refl h
-  behind_stops more found i at m e d ih false h = absurd (let z : ⊥ = cc in z)
+  behind_stops : P → (more : List A → Parser (List A)) (found : List A) (i : Input) (at : ℕ) (m : Input) (e : Failure) → token k i at m → ((z : List A) → Stops (more z) (All z)) → (b : Bool) → (if b then (and_one p found >>= more) m else read found m) ≡ stopped e → Inside found i e
+  behind_stops granted more found i at m e d ih true h = item_stops granted more found i at m e d ih (p m) refl h
+  behind_stops granted more found i at m e d ih false h = absurd (let z : ⊥ = cc in z)
 
-  separator_stops : (more : List A → Parser (List A)) (found : List A) (i : Input) (e : Failure) → ((z : List A) → Stops (more z) (All z)) → (o : Outcome ℕ) → expect n i ≡ o → and_then o (λ at. branch test (and_one p found >>= more) (pure found)) ≡ stopped e → Inside found i e
-  separator_stops more found i e ih (Ok x) g h = behind_stops more found i x.0 x.1 e ((law_expect k o).sound i x.0 x.1 g) ih (test (next_token x.1)) h
-  separator_stops more found i e ih (Err f) g h = inr (expect_first k i e (g ∙ ap stopped (failure_is {A = List A} f e h)))
+  separator_stops : P → (more : List A → Parser (List A)) (found : List A) (i : Input) (e : Failure) → ((z : List A) → Stops (more z) (All z)) → (o : Outcome ℕ) → expect n i ≡ o → and_then o (λ at. branch test (and_one p found >>= more) (pure found)) ≡ stopped e → Inside found i e
+  separator_stops granted more found i e ih (Ok x) g h = behind_stops granted more found i x.0 x.1 e ((law_expect {P = Unit {0}} k o).sound i x.0 x.1 g) ih (test (next_token x.1)) h
+  separator_stops granted more found i e ih (Err f) g h = inr (expect_first k i e (g ∙ ap stopped (failure_is {A = List A} f e h)))
 
-  turn_stops : (more : List A → Parser (List A)) (found : List A) (i : Input) (e : Failure) → ((z : List A) → Stops (more z) (All z)) → (b : Bool) → (if b then (expect n >> branch test (and_one p found >>= more) (pure found)) i else read found i) ≡ stopped e → Inside found i e
-  turn_stops more found i e ih true h = separator_stops more found i e ih (expect n i) refl h
-  turn_stops more found i e ih false h = absurd (let z : ⊥ = cc in z)
+  turn_stops : P → (more : List A → Parser (List A)) (found : List A) (i : Input) (e : Failure) → ((z : List A) → Stops (more z) (All z)) → (b : Bool) → (if b then (expect n >> branch test (and_one p found >>= more) (pure found)) i else read found i) ≡ stopped e → Inside found i e
+  turn_stops granted more found i e ih true h = separator_stops granted more found i e ih (expect n i) refl h
+  turn_stops granted more found i e ih false h = absurd (let z : ⊥ = cc in z)
 
-  series_stops : (count : ℕ) (found : List A) → Stops (rest count found) (All found)
+  series_stops : P → (count : ℕ) (found : List A) → Stops (rest count found) (All found)
   unfolding series
-  series_stops zero found i e h = absurd (let z : ⊥ = cc in z)
-  series_stops (suc count) found i e h = turn_stops (rest count) found i e (λ z. series_stops count z) (is n (next_token i)) h
+  series_stops granted zero found i e h = absurd (let z : ⊥ = cc in z)
+  series_stops granted (suc count) found i e h = turn_stops granted (rest count) found i e (λ z. series_stops granted count z) (is n (next_token i)) h
 
   front_of : (found : List A) (i : Input) (e : Failure) → place e < length i.rest → Inside found i e → Front (All found) i (place e)
   front_of found i e l (inl w) = w.1
   front_of found i e l (inr w) = absurd (let z : ⊥ = omega (arith, w, l) in z)
 
-  law_tail : (found : List A) → Law true (either (is n) follow) follow (repeated_series n test (and_one p) found) ((λ xs. found ++ xs) <$>ʳ tail)
+  law_tail : (found : List A) → LawWhere P true (either (is n) follow) follow (repeated_series n test (and_one p) found) ((λ xs. found ++ xs) <$>ʳ tail)
   unfolding repeated_series left
   law_tail found = record {
     sound = λ i ys j h. let w = series_sound (length i.rest) found i ys j h in (w.0, j, w.1, (w.2, refl));
@@ -250,8 +250,8 @@ module _ {A : Type 0} {u : Bool} {first inner : Nexts} {p : Parser A} {r : Rule 
     shrinks = λ i ys j h. series_shrinks (length i.rest) found i ys j h;
     settles = settles_series n test (and_one p) (not_end k o) expect_falls one_shrinks (λ x. (law_map (λ y. x ++ y ∷ []) a).settles) found;
     moves = moves_all found;
-    recovers = λ i e h l. front_of found i e l (series_stops (length i.rest) found i e h);
-    ends = λ e. ends_all found;
+    recovers = λ granted i e h l. front_of found i e l (series_stops granted (length i.rest) found i e h);
+    ends = λ granted e. ends_all found;
   }
 
   regrouped : Same (r >>=ʳ (λ x. (λ xs. (x ∷ []) ++ xs) <$>ʳ tail)) (rule.separated (token k) r >>=ʳ (λ xs. optional (token k) >>ʳ gives xs))
@@ -266,5 +266,5 @@ module _ {A : Type 0} {u : Bool} {first inner : Nexts} {p : Parser A} {r : Rule 
   }
 
   -- items with separators, and one more separator that may follow
-  pub law_series : Law u first follow (separated_series n test p) (rule.separated (token k) r >>=ʳ (λ xs. optional (token k) >>ʳ gives xs))
+  pub law_series : LawWhere P u first follow (separated_series n test p) (rule.separated (token k) r >>=ʳ (λ xs. optional (token k) >>ʳ gives xs))
   law_series = law_as regrouped (law_then a (within_both (is n) follow inner again last) (λ x. law_tail (x ∷ [])))
