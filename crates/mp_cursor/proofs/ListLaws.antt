@@ -40,8 +40,8 @@ pub falls_opening : (room : ℕ) (k : TokenKind) → IsOnly k → Falls (opening
 falls_opening zero k o = record { by = λ i at j h. absurd ((law_opening {P = Unit {0}} k o zero).sound i at j h) }
 falls_opening (suc room) k o = record { by = λ i at j h. token_falls k i at j ((law_opening {P = Unit {0}} k o (suc room)).sound i at j h) }
 
-pub falls_then : {P A B : Type 0} {u : Bool} {f g : Nexts} {p : Parser A} {q : A → Parser B} {s : A → Rule B} → Falls p → ((x : A) → LawWhere P u f g (q x) (s x)) → Falls (p >>= q)
-falls_then {p = p} {q = q} a b = record {
+pub falls_where : {A B : Type 0} {u : Bool} {f g : Nexts} {p : Parser A} {q : A → Parser B} {s : A → Rule B} (P : Type 0) → Falls p → ((x : A) → LawWhere P u f g (q x) (s x)) → Falls (p >>= q)
+falls_where {p = p} {q = q} P a b = record {
   by = λ i y j h.
       let o = both_ok (p i) q y j h in
       let l = a.by i o.0 o.1 o.2 in
@@ -49,13 +49,16 @@ falls_then {p = p} {q = q} a b = record {
       omega arith;
 }
 
+pub falls_then : {A B : Type 0} {u : Bool} {f g : Nexts} {p : Parser A} {q : A → Parser B} {s : A → Rule B} → Falls p → ((x : A) → Law u f g (q x) (s x)) → Falls (p >>= q)
+falls_then a b = falls_where (Unit {0}) a b
+
 -- an opener and what stands behind it
-pub falls_opened : {P B : Type 0} {u : Bool} {f h : Nexts} {q : ℕ → Parser B} {s : ℕ → Rule B} (k : TokenKind) → IsOnly k → (room : ℕ) → ((n : ℕ) → room ≡ suc n → (at : ℕ) → LawWhere P u f h (q at) (s at)) → Falls (opening room (class_of k) >>= q)
+pub falls_opened : {B : Type 0} {u : Bool} {f h : Nexts} {q : ℕ → Parser B} {s : ℕ → Rule B} (k : TokenKind) → IsOnly k → (room : ℕ) → ((n : ℕ) → room ≡ suc n → (at : ℕ) → Law u f h (q at) (s at)) → Falls (opening room (class_of k) >>= q)
 falls_opened {q = q} k o zero a = record { by = λ i x j e. let w = both_ok (opening zero (class_of k) i) q x j e in absurd ((law_opening {P = Unit {0}} k o zero).sound i w.0 w.1 w.2) }
 falls_opened k o (suc room) a = falls_then (falls_opening (suc room) k o) (a room refl)
 
 -- what takes a token behind another parser
-pub falls_last : {P A B : Type 0} {u : Bool} {f g : Nexts} {p : Parser A} {r : Rule A} {q : A → Parser B} → LawWhere P u f g p r → ((x : A) → Falls (q x)) → Falls (p >>= q)
+pub falls_last : {A B : Type 0} {u : Bool} {f g : Nexts} {p : Parser A} {r : Rule A} {q : A → Parser B} → Law u f g p r → ((x : A) → Falls (q x)) → Falls (p >>= q)
 falls_last {p = p} {q = q} a b = record {
   by = λ i y j h.
       let o = both_ok (p i) q y j h in
@@ -256,7 +259,7 @@ module _ {P A : Type 0} {first inner : Nexts} {p : Parser A} {r : Rule A} (k : T
   law_further = law_then (law_expect k o) (within_any first) (λ at. a)
 
   pub falls_further : Falls (expect (class_of k) >> p)
-  falls_further = falls_then (falls_expect k o) (λ at. a)
+  falls_further = falls_where P (falls_expect k o) (λ at. a)
 
 module _ {P A : Type 0} {first inner : Nexts} {p : Parser A} {r : Rule A} (k : TokenKind) (o : IsOnly k) (follow : Nexts) (a : LawWhere P true first inner p r) (stops : apart follow (is (class_of k)) ≡ true) (again : within (is (class_of k)) inner ≡ true) (last : within follow inner ≡ true) where
   pub law_separated : LawWhere P true first follow (separated (class_of k) p) (rule.separated (token k) r)

@@ -1,5 +1,5 @@
 -- The laws of declarations, blocks and programs: the parser reads exactly what the grammar allows.
-use Rattle.std.proofs.Common.{◌≡◌, ℕ, zero, suc, List, [], ◌∷◌, ◌++◌, Option, Some, None, map, codes, refl, sym, ap, ◌∙◌, subst, append_assoc}
+use Rattle.std.proofs.Common.{◌≡◌, Bool, true, false, ℕ, zero, suc, List, [], ◌∷◌, ◌++◌, Option, Some, None, map, codes, refl, sym, ap, ◌∙◌, subst, append_assoc}
 use Rattle.std.proofs.lemmas.List.{append-nil}
 use Rattle.mp_ast.specs.declared.words.WordSymbol.TheVariants as w
 use Rattle.mp_ast.specs.declared.symbols.Symbol.TheVariants as s
@@ -20,11 +20,11 @@ use Rattle.mp_cursor.specs.declared.next.Next.TheVariants.{Word, Symbol}
 use Rattle.mp_cursor.specs.Nexts.{Nexts, is, any, either}
 use Rattle.mp_cursor.specs.Parsers.{Parser, ◌>>=◌, ◌>>◌, pure, expect, deeper}
 use Rattle.mp_cursor.proofs.NextSets.{within_any, within_itself}
-use Rattle.mp_cursor.proofs.Laws.{Law, Same, law_pure, law_then, law_map, law_begun, law_as, law_word, law_symbol, law_here, law_never}
+use Rattle.mp_cursor.proofs.Laws.{Law, LawWhere, law_where, Same, law_pure, law_then, law_map, law_begun, law_as, law_word, law_symbol, law_here, law_never, law_unfinished}
 use Rattle.mp_cursor.proofs.SameRules.{same_refl, same_sym, same_trans, same_then, map_first, same_value}
-use Rattle.mp_cursor.proofs.LeafLaws.{law_identifier, law_directive}
-use Rattle.mp_cursor.proofs.ChoiceLaws.{law_branch}
-use Rattle.mp_cursor.proofs.ListLaws.{Falls, falls_then, falls_last, falls_symbol, all_added, law_repeated}
+use Rattle.mp_cursor.proofs.LeafLaws.{has_room, law_identifier, law_directive}
+use Rattle.mp_cursor.proofs.ChoiceLaws.{law_branch, law_branch_first}
+use Rattle.mp_cursor.proofs.ListLaws.{Falls, falls_where, falls_last, falls_symbol, all_added, law_repeated}
 use Rattle.mp_cursor.proofs.ConstantLaws.{law_identifiers}
 use Rattle.mp_cursor.proofs.BlockLaws.{law_counted, law_deeper, law_own_ordinals}
 use Rattle.mp_parse_type.proofs.HeadingLaws.{law_heading, heading_begins}
@@ -76,21 +76,21 @@ falls_deeper (suc depth) a = a
 
 -- ---- what follows a heading
 
-law_forward : Law (is next.Identifier) any p.forward_directive g.forward_directive
+law_forward : Law true (is next.Identifier) any p.forward_directive g.forward_directive
 unfolding p.forward_directive
 law_forward = law_then (law_directive (codes "forward")) (within_any any) (λ at. law_pure (body.Forward at, []) any)
 
-module _ {f : Nexts} {q : Parser Tree} {r : Rule Tree} (block : Law f any q r) where
-  law_block_body : Law f any (p.block_body q) (g.block_body r)
+module _ {P : Type 0} {u : Bool} {f : Nexts} {q : Parser Tree} {r : Rule Tree} (block : LawWhere P u f any q r) where
+  law_block_body : LawWhere P u f any (p.block_body q) (g.block_body r)
   unfolding p.block_body
   law_block_body = law_then block (within_any any) (λ tree. law_pure (body.Block, tree ∷ []) any)
 
-module _ {q : Parser Tree} {r : Rule Tree} (block : Law block_begins any q r) where
+module _ {P : Type 0} {u : Bool} {q : Parser Tree} {r : Rule Tree} (block : LawWhere P u block_begins any q r) where
   abbrev body_begins : Nexts
   body_begins = either (is next.Identifier) block_begins
 
-  law_declared_body : Law body_begins any (p.declared_body q) (rule.◌<|>◌ g.forward_directive (g.block_body r))
-  law_declared_body = law_branch (is next.Identifier) law_forward refl refl (law_block_body block)
+  law_declared_body : LawWhere P true body_begins any (p.declared_body q) (rule.◌<|>◌ g.forward_directive (g.block_body r))
+  law_declared_body = law_branch_first (is next.Identifier) (law_where P law_forward) refl refl (law_block_body block)
 
   module _ (limits : Limits) where
     abbrev pair : g.Declared → p.Declared
@@ -108,15 +108,15 @@ module _ {q : Parser Tree} {r : Rule Tree} (block : Law block_begins any q r) wh
         rule.◌>>=◌ (rule.◌<|>◌ g.forward_directive (g.block_body r)) (λ rest.
         rule.◌>>◌ (rule.symbol s.Semicolon) (rule.gives (declared_pair heading semicolon rest))))))
 
-    rest_behind : (heading : HeadingTree) (semicolon : ℕ) → Law body_begins any (p.declared_body q >>= (λ rest. expect (Symbol s.Semicolon) >> pure (declared_pair heading semicolon rest)))
+    rest_behind : (heading : HeadingTree) (semicolon : ℕ) → LawWhere P true body_begins any (p.declared_body q >>= (λ rest. expect (Symbol s.Semicolon) >> pure (declared_pair heading semicolon rest)))
         (rule.◌>>=◌ (rule.◌<|>◌ g.forward_directive (g.block_body r)) (λ rest. rule.◌>>◌ (rule.symbol s.Semicolon) (rule.gives (declared_pair heading semicolon rest))))
     rest_behind heading semicolon = law_then law_declared_body (within_any (is (Symbol s.Semicolon))) (λ rest. law_then (law_symbol s.Semicolon) (within_any any) (λ z. law_pure (declared_pair heading semicolon rest) any))
 
-    law_declaration : Law heading_begins any (p.declaration limits q) declaration_rule
+    law_declaration : LawWhere P false heading_begins any (p.declaration limits q) declaration_rule
     unfolding p.declaration
     law_declaration =
         law_then (law_counted limits.declarations heading_begins) (within_itself heading_begins) (λ z.
-        law_then (law_heading limits.openers) refl (λ heading.
+        law_then (law_where P (law_heading limits.openers)) refl (λ heading.
         law_then (law_symbol s.Semicolon) (within_any body_begins) (λ semicolon. rest_behind heading semicolon)))
 
     falls_declaration : Falls (p.declaration limits q)
@@ -124,7 +124,7 @@ module _ {q : Parser Tree} {r : Rule Tree} (block : Law block_begins any q r) wh
     falls_declaration =
         falls_last (law_counted limits.declarations heading_begins) (λ z.
         falls_last (law_heading limits.openers) (λ heading.
-        falls_then (falls_symbol s.Semicolon) (λ semicolon. rest_behind heading semicolon)))
+        falls_where P (falls_symbol s.Semicolon) (λ semicolon. rest_behind heading semicolon)))
 
     declaration_same : Same declaration_rule (rule.◌<$>◌ pair (g.declaration limits r))
     declaration_same = record {
@@ -174,7 +174,7 @@ module _ {q : Parser Tree} {r : Rule Tree} (block : Law block_begins any q r) wh
         (same_trans (map_first (map pair) (many (rule.deeper depth (g.declaration limits r))) (λ xs. rule.gives (all_added p.with_one_more ([], []) xs)))
         (same_value _ _ collected)))
 
-    law_declarations : (depth : ℕ) → Law (either heading_begins (is (Word w.Begin))) (is (Word w.Begin)) (p.declarations limits depth q) (rule.◌<$>◌ of_records (many (rule.deeper depth (g.declaration limits r))))
+    law_declarations : (depth : ℕ) → LawWhere P true (either heading_begins (is (Word w.Begin))) (is (Word w.Begin)) (p.declarations limits depth q) (rule.◌<$>◌ of_records (many (rule.deeper depth (g.declaration limits r))))
     unfolding p.declarations p.further_declaration
     law_declarations depth =
         law_as (declarations_same depth)
@@ -182,30 +182,34 @@ module _ {q : Parser Tree} {r : Rule Tree} (block : Law block_begins any q r) wh
 
     -- ---- blocks
 
-    pub law_block : (program : Option ProgramHeading) (depth : ℕ) → Law block_begins any (p.block_with limits program depth q) (g.block_with limits program depth r)
+    pub law_block : (P → has_room limits.openers ≡ true) → (program : Option ProgramHeading) (depth : ℕ) → LawWhere P true block_begins any (p.block_with limits program depth q) (g.block_with limits program depth r)
     unfolding p.block_with
-    law_block program depth =
+    law_block room program depth =
         law_begun block_begins refl
-        (law_then law_labels refl (λ labels.
-        law_then law_constants refl (λ constants.
-        law_then (law_types limits.openers) refl (λ types.
-        law_then (law_variables limits.openers) refl (λ variables.
+        (law_then (law_where P law_labels) refl (λ labels.
+        law_then (law_where P law_constants) refl (λ constants.
+        law_then (law_where P (law_types limits.openers)) refl (λ types.
+        law_then (law_where P (law_variables limits.openers)) refl (λ variables.
         law_as (map_first _ _ _)
         (law_then (law_declarations depth) refl (λ declared.
-        law_then (law_statement_part limits.openers) (within_any any) (λ statements.
+        law_then (law_statement_part limits.openers room) (within_any any) (λ statements.
         law_then (law_here any) (within_any any) (λ tokens. law_pure _ any)))))))))
 
 -- ---- blocks in one another
 
 module _ (limits : Limits) where
-  pub law_nested_block : (depth : ℕ) → Law block_begins any (p.nested_block limits depth) (g.nested_block limits depth)
+  -- where an opener may stand open
+  abbrev pub Room : Type 0
+  Room = has_room limits.openers ≡ true
+
+  pub law_nested_block : (depth : ℕ) → LawWhere Room false block_begins any (p.nested_block limits depth) (g.nested_block limits depth)
   unfolding p.nested_block g.nested_block
   law_nested_block zero = law_never block_begins any
-  law_nested_block (suc depth) = law_own_ordinals (law_map (g.tree_of limits) (law_block (law_nested_block depth) limits None depth))
+  law_nested_block (suc depth) = law_unfinished (law_own_ordinals (law_map (g.tree_of limits) (law_block (law_nested_block depth) limits (λ room. room) None depth)))
 
   -- ---- programs
 
-  law_parameters : Law (either (is (Symbol s.LeftParen)) (is (Symbol s.Semicolon))) (is (Symbol s.Semicolon)) (p.parameters limits) (g.part (g.program_parameters limits))
+  law_parameters : Law true (either (is (Symbol s.LeftParen)) (is (Symbol s.Semicolon))) (is (Symbol s.Semicolon)) (p.parameters limits) (g.part (g.program_parameters limits))
   unfolding p.parameters p.some_parameters
   law_parameters =
       law_branch (is (Symbol s.LeftParen))
@@ -222,7 +226,7 @@ module _ (limits : Limits) where
       rule.◌>>=◌ (g.part (g.program_parameters limits)) (λ parameters.
       rule.◌>>◌ (rule.symbol s.Semicolon) (rule.gives (a_heading name parameters)))))
 
-  law_program_heading : Law (is (Word w.Program)) any (p.program_heading limits) heading_rule
+  law_program_heading : Law true (is (Word w.Program)) any (p.program_heading limits) heading_rule
   unfolding p.program_heading
   law_program_heading =
       law_then (law_word w.Program) (within_any (is next.Identifier)) (λ z.
@@ -250,10 +254,10 @@ module _ (limits : Limits) where
         (a_heading n.0 a.0, c.1, (d.0, d.1, d.2, (n.0, n.1, n.2, (a.0, a.1, a.2, (c.0, c.1, c.2, (refl, refl))))), c.3);
   }
 
-  pub law_program : Law (is (Word w.Program)) any (p.program limits) (g.program limits)
+  pub law_program : LawWhere Room true (is (Word w.Program)) any (p.program limits) (g.program limits)
   unfolding p.program
   law_program =
       law_as program_same
-      (law_then law_program_heading (within_any block_begins) (λ heading.
-      law_then (law_block (law_nested_block limits.depth) limits (Some heading) limits.depth) (within_any (is (Symbol s.Dot))) (λ found.
+      (law_then (law_where Room law_program_heading) (within_any block_begins) (λ heading.
+      law_then (law_block (law_nested_block limits.depth) limits (λ room. room) (Some heading) limits.depth) (within_any (is (Symbol s.Dot))) (λ found.
       law_then (law_symbol s.Dot) (within_any any) (λ z. law_then (law_here any) (within_any any) (λ tokens. law_pure _ any)))))

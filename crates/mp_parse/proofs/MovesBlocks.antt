@@ -1,5 +1,5 @@
 -- The rules of blocks do not look around, nor heed what follows: a block ends in its own `end`.
-use Rattle.std.proofs.Common.{ℕ, zero, suc, ◌+◌, ◌-◌, false, List, ◌++◌, Option, None, refl, sym, ap, ◌∙◌, arith}
+use Rattle.std.proofs.Common.{Bool, ℕ, zero, suc, ◌+◌, ◌-◌, false, List, ◌++◌, Option, None, refl, sym, ap, ◌∙◌, arith}
 use Rattle.mp_ast.specs.declared.blocks.ProgramHeading.{ProgramHeading}
 use Rattle.mp_ast.specs.declared.blocks.Tree.{Tree}
 use Rattle.mp_ast.specs.Rules.{Input, Rule, with_own_ordinals}
@@ -7,7 +7,7 @@ use Rattle.mp_ast.specs.BlockGrammar as g
 use Rattle.mp_ast.specs.BlockGrammar.{Limits}
 use Rattle.mp_cursor.specs.Nexts.{Nexts, any}
 use Rattle.mp_cursor.specs.Parsers.{Parser}
-use Rattle.mp_cursor.proofs.Laws.{Law}
+use Rattle.mp_cursor.proofs.Laws.{LawWhere}
 use Rattle.mp_parse.specs.Blocks as p
 use Rattle.mp_parse.specs.Locality.{IsLocal}
 use Rattle.mp_parse.proofs.DeclarationLaws.{law_nested_block}
@@ -69,7 +69,7 @@ module _ (limits : Limits) where
 
 -- ---- the parser
 
-module _ {A : Type 0} {most : ℕ} {f : Nexts} {q : Parser A} {r : Rule A} (law : Law f any q (with_own_ordinals r)) (a : Moves false most r) where
+module _ {P A : Type 0} {b : Bool} {most : ℕ} {f : Nexts} {q : Parser A} {r : Rule A} (law : LawWhere P b f any q (with_own_ordinals r)) (a : Moves false most r) where
   local_own : IsLocal most q
   local_own i x j e =
       let h = law.sound i x j e in

@@ -88,6 +88,6 @@ module _ {begins : Nexts} {statement : Parser Statement} {r : Rule Statement} (f
     shrinks = λ i x j h. shrinks_by i x j (is (Word w.Else) (next_token i)) h;
     settles = settles_branch taken (pure None) (is (Word w.Else)) law_taken.settles (settles_pure None);
     moves = moves_or (rule.◌<$>◌ Some (rule.◌>>◌ (rule.word w.Else) r)) left_out law_taken.moves moves_left_out;
-    recovers = recovers_branch (is (Word w.Else)) taken (pure None) (rule.◌<$>◌ Some (rule.◌>>◌ (rule.word w.Else) r)) left_out law_taken.recovers (λ i e h l. absurd (let n : ⊥ = cc in n));
-    ends = λ e. ends_right (rule.◌<$>◌ Some (rule.◌>>◌ (rule.word w.Else) r)) left_out ends_left_out;
+    recovers = λ granted. recovers_branch (is (Word w.Else)) taken (pure None) (rule.◌<$>◌ Some (rule.◌>>◌ (rule.word w.Else) r)) left_out (law_taken.recovers granted) (λ i e h l. absurd (let n : ⊥ = cc in n));
+    ends = λ granted e. ends_right (rule.◌<$>◌ Some (rule.◌>>◌ (rule.word w.Else) r)) left_out ends_left_out;
   }

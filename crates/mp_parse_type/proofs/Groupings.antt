@@ -69,8 +69,8 @@ module _ {A : Type 0} {u v : Bool} {f h g : Nexts} {p q : Parser A} {r s t : Rul
     shrinks = λ i x j e. chosen_shrinks i x j (test (next_token i)) e;
     settles = settles_branch p q test a.settles c.settles;
     moves = moves_as (r <|>ʳ s) t to_split (λ i x j d. either_of i x j (splits.to i x j d)) (moves_or r s a.moves c.moves);
-    recovers = recovers_as (branch test p q) (r <|>ʳ s) t to_split (recovers_branch test p q r s a.recovers c.recovers);
-    ends = λ e. ends_as r t splits.first (a.ends e);
+    recovers = λ granted. recovers_as (branch test p q) (r <|>ʳ s) t to_split (recovers_branch test p q r s (a.recovers granted) (c.recovers granted));
+    ends = λ granted e. ends_as r t splits.first (a.ends granted e);
   }
 
 -- ---- parsers that take a token at least

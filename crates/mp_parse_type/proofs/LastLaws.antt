@@ -60,7 +60,7 @@ module _ {A B C : Type 0} {u : Bool} {first inner begin : Nexts} {p : Parser A} 
   turn_sound : (more : List A → Parser B) (found : List A) (i : Input) (y : B) (j : Input) → ((z : List A) (l : Input) → more z l ≡ read y j → Ended z l y j) → (b : Bool) → (if b then (expect n >> behind more found) i else read (whole found) i) ≡ read y j → Ended found i y j
   turn_sound more found i y j ih true h =
       let w = both_ok (expect n i) (λ at. behind more found) y j h in
-      behind_sound more found i w.0 w.1 y j ((law_expect k o).sound i w.0 w.1 w.2) ih (test (next_token w.1)) w.3
+      behind_sound more found i w.0 w.1 y j ((law_expect {P = Unit {0}} k o).sound i w.0 w.1 w.2) ih (test (next_token w.1)) w.3
   turn_sound more found i y j ih false h = ended found i y j h
 
   list_sound : (count : ℕ) (found : List A) (i : Input) (y : B) (j : Input) → rest count found i ≡ read y j → Ended found i y j
@@ -79,7 +79,7 @@ module _ {A B C : Type 0} {u : Bool} {first inner begin : Nexts} {p : Parser A} 
   turn_shrinks : (more : List A → Parser B) (found : List A) (i : Input) (y : B) (j : Input) → ((z : List A) (l : Input) → more z l ≡ read y j → length j.rest ≤ length l.rest) → (b : Bool) → (if b then (expect n >> behind more found) i else read (whole found) i) ≡ read y j → length j.rest ≤ length i.rest
   turn_shrinks more found i y j ih true h =
       let w = both_ok (expect n i) (λ at. behind more found) y j h in
-      let e = (law_expect k o).shrinks i w.0 w.1 w.2 in
+      let e = (law_expect {P = Unit {0}} k o).shrinks i w.0 w.1 w.2 in
       let f = behind_shrinks more found w.1 y j ih (test (next_token w.1)) w.3 in
       omega arith
   turn_shrinks more found i y j ih false h = let e = ap (λ l. length l.rest) (read_is (whole found) y i j h).1 in omega arith
@@ -92,7 +92,7 @@ module _ {A B C : Type 0} {u : Bool} {first inner begin : Nexts} {p : Parser A} 
   -- ---- what the rule allows is read
 
   sees : (i : Input) (at : ℕ) (m : Input) → token k i at m → is n (next_token i) ≡ true
-  sees i at m d = (law_expect k o).begins i at m d refl
+  sees i at m d = (law_expect {P = Unit {0}} k o).begins i at m d refl
 
   -- where the items end
   ending_begins : (i : Input) (e : C) (j : Input) → ending i e j → follow (next_token j) ≡ true → either (is n) follow (next_token i) ≡ true
@@ -108,7 +108,7 @@ module _ {A B C : Type 0} {u : Bool} {first inner begin : Nexts} {p : Parser A} 
   ending_read zero found i e j (inl d) v l = absurd (let f = token_falls k i d.0 d.1 d.2 in let z : ⊥ = omega arith in z)
   ending_read (suc count) found i e j (inl d) v l =
       ap (λ b. if b then (expect n >> behind (rest count) found) i else read (whole found) i) (sees i d.0 d.1 d.2)
-      ∙ ap (λ u. and_then u (λ at. behind (rest count) found)) ((law_expect k o).complete i d.0 d.1 d.2 refl)
+      ∙ ap (λ u. and_then u (λ at. behind (rest count) found)) ((law_expect {P = Unit {0}} k o).complete i d.0 d.1 d.2 refl)
       ∙ ap (λ b. if b then (and_one p found >>= rest count) d.1 else with_last found d.1) (apart_is begin test ends (next_token d.1) (c.begins d.1 e j d.3 v))
       ∙ ap (λ u. and_then u (λ x. pure (add found x))) (c.complete d.1 e j d.3 v)
   ending_read zero found i e j (inr d) v l = ap (λ z. read (add found z) i) d.0 ∙ ap (λ m. read (add found e) m) d.1
@@ -126,14 +126,14 @@ module _ {A B C : Type 0} {u : Bool} {first inner begin : Nexts} {p : Parser A} 
       let f = token_falls k i d.0 d.1 d.2 in
       let g = a.shrinks d.1 x m u in
       ap (λ b. if b then (expect n >> behind (rest count) found) i else read (whole found) i) (sees i d.0 d.1 d.2)
-      ∙ ap (λ z. and_then z (λ at. behind (rest count) found)) ((law_expect k o).complete i d.0 d.1 d.2 refl)
+      ∙ ap (λ z. and_then z (λ at. behind (rest count) found)) ((law_expect {P = Unit {0}} k o).complete i d.0 d.1 d.2 refl)
       ∙ ap (λ b. if b then (and_one p found >>= rest count) d.1 else with_last found d.1) (within_is first test begins (next_token d.1) (a.begins d.1 x m d.3 w))
       ∙ ap (λ z. and_then (and_then z (λ x. pure (found ++ x ∷ []))) (rest count)) u
       ∙ list_complete e l j s v count (found ++ x ∷ []) xs m ds (omega arith)
       ∙ ap (λ z. read (add z e) j) (append_assoc found (x ∷ []) xs)
 
   separator_falls : (i : Input) (at : ℕ) (j : Input) → expect n i ≡ read at j → length j.rest < length i.rest
-  separator_falls i at j h = token_falls k i at j ((law_expect k o).sound i at j h)
+  separator_falls i at j h = token_falls k i at j ((law_expect {P = Unit {0}} k o).sound i at j h)
 
   item_shrinks : (x : List A) (i : Input) (y : List A) (j : Input) → and_one p x i ≡ read y j → length j.rest ≤ length i.rest
   item_shrinks x i y j h = (law_map (λ z. x ++ z ∷ []) a).shrinks i y j h
@@ -170,7 +170,7 @@ module _ {A B C : Type 0} {u : Bool} {first inner begin : Nexts} {p : Parser A} 
       ([], i, no_more, (s.0, s.1, inl (d.0, d.1, d.2, s.2), (ap (λ z. add z s.0) (append-nil found) ∙ s.3.0, s.3.1)))
 
   ends_last : (found : List A) → Ends (add found <$>ʳ t)
-  ends_last found = ends_then t (λ x. gives (add found x)) (c.ends refl) (λ x. ends_pure (add found x))
+  ends_last found = ends_then t (λ x. gives (add found x)) (c.ends tt refl) (λ x. ends_pure (add found x))
 
   after_separator : (found : List A) (i : Input) (at : ℕ) (m : Input) → token k i at m → (place : ℕ) → place ≡ length m.rest → Front (All found) i place
   after_separator found i at m d place w =
@@ -189,7 +189,7 @@ module _ {A B C : Type 0} {u : Bool} {first inner begin : Nexts} {p : Parser A} 
       inl (omega (arith, w, l), after_separator found i at m d (place e) w)
 
   item_stops : (more : List A → Parser B) (found : List A) (i : Input) (at : ℕ) (m : Input) (e : Failure) → token k i at m → ((z : List A) → Stops (more z) (All z)) → (o : Outcome A) → p m ≡ o → and_then (and_then o (λ x. pure (found ++ x ∷ []))) more ≡ stopped e → Inside found i e
-  item_stops more found i at m e d ih (Err f) g h = first_stops (stops_where p r a.settles a.recovers m e (g ∙ ap stopped (failure_is {A = B} f e h)))
+  item_stops more found i at m e d ih (Err f) g h = first_stops (stops_where p r a.settles (a.recovers tt) m e (g ∙ ap stopped (failure_is {A = B} f e h)))
     where
       l : length m.rest < length i.rest
       l = token_falls k i at m d
@@ -222,10 +222,10 @@ module _ {A B C : Type 0} {u : Bool} {first inner begin : Nexts} {p : Parser A} 
 
   behind_stops : (more : List A → Parser B) (found : List A) (i : Input) (at : ℕ) (m : Input) (e : Failure) → token k i at m → ((z : List A) → Stops (more z) (All z)) → (b : Bool) → (if b then (and_one p found >>= more) m else with_last found m) ≡ stopped e → Inside found i e
   behind_stops more found i at m e d ih true h = item_stops more found i at m e d ih (p m) refl h
-  behind_stops more found i at m e d ih false h = last_stops found i at m e d (stops_where (with_last found) (add found <$>ʳ t) (law_map (add found) c).settles (law_map (add found) c).recovers m e h)
+  behind_stops more found i at m e d ih false h = last_stops found i at m e d (stops_where (with_last found) (add found <$>ʳ t) (law_map (add found) c).settles ((law_map (add found) c).recovers tt) m e h)
 
   separator_stops : (more : List A → Parser B) (found : List A) (i : Input) (e : Failure) → ((z : List A) → Stops (more z) (All z)) → (o : Outcome ℕ) → expect n i ≡ o → and_then o (λ at. behind more found) ≡ stopped e → Inside found i e
-  separator_stops more found i e ih (Ok x) g h = behind_stops more found i x.0 x.1 e ((law_expect k o).sound i x.0 x.1 g) ih (test (next_token x.1)) h
+  separator_stops more found i e ih (Ok x) g h = behind_stops more found i x.0 x.1 e ((law_expect {P = Unit {0}} k o).sound i x.0 x.1 g) ih (test (next_token x.1)) h
   separator_stops more found i e ih (Err f) g h = inr (expect_first k i e (g ∙ ap stopped (failure_is {A = B} f e h)))
 
   turn_stops : (more : List A → Parser B) (found : List A) (i : Input) (e : Failure) → ((z : List A) → Stops (more z) (All z)) → (b : Bool) → (if b then (expect n >> behind more found) i else read (whole found) i) ≡ stopped e → Inside found i e
@@ -256,6 +256,6 @@ module _ {A B C : Type 0} {u : Bool} {first inner begin : Nexts} {p : Parser A} 
     shrinks = λ i y j h. list_shrinks (length i.rest) found i y j h;
     settles = settles_with_last n test (and_one p) with_last whole (not_end k o) separator_falls item_shrinks (λ x. (law_map (λ y. x ++ y ∷ []) a).settles) (λ x. (law_map (add x) c).settles) found;
     moves = moves_all found;
-    recovers = λ i e h l. front_of found i e l (list_stops (length i.rest) found i e h);
-    ends = λ e. ends_all found;
+    recovers = λ granted i e h l. front_of found i e l (list_stops (length i.rest) found i e h);
+    ends = λ granted e. ends_all found;
   }

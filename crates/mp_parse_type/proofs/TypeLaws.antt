@@ -226,7 +226,7 @@ module _ (room : ℕ) (q : p.Deeper) (r : g.Deeper) (behind : (n : ℕ) → room
   law_structured : {f h : Nexts} {t : ℕ → Parser Denoter} {u : ℕ → Rule Denoter} (packed : Option ℕ) (v : WordSymbol) → no_else (kind.Word v) ≡ true → Opened packed → (BehindLaws q r → (at : ℕ) → Law true f h (t at) (u at)) → Law (finishes packed) (is (Word v)) h (p.structure_word room q packed v >>= t) (g.structure_word room r packed v >>=ʳ u)
   unfolding p.structure_word
   law_structured None v other opened a = law_opened_word v other room (λ n e at. a (opened n e) at)
-  law_structured {f = f} (Some packed) v other opened a = law_then (law_ends (ends_token (kind.Word v) other) (law_word v)) (within_any f) (λ at. a opened at)
+  law_structured {f = f} (Some packed) v other opened a = law_then (law_ends (λ granted. ends_token (kind.Word v) other) (law_word v)) (within_any f) (λ at. a opened at)
 
   law_array_type : (packed : Option ℕ) → Opened packed → Law (finishes packed) (is (Word w.Array)) after_denoter (p.array_type room q packed) (g.array_type room r packed)
   unfolding p.array_type
