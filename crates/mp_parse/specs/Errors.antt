@@ -15,12 +15,14 @@ error_of (failure.Wrong (suc left)) count = error.Syntax (count - suc left) 201
 error_of (failure.TooDeep left) count = error.Syntax (count - left) 203
 error_of (failure.TooMany left) count = error.Syntax (count - left) 204
 
--- No program begins with the tokens up to the one with this index and with it. The number of tokens stands for the end.
-pub record NoneBegins (kinds : List TokenKind) (index : ℕ) : Type 0 where
+-- A program begins with the tokens before the one with this index, and none with this one as well. The number of tokens
+-- stands for the end, where there is no token more.
+pub record IsFirstWrong (kinds : List TokenKind) (index : ℕ) : Type 0 where
   pub within : index ≤ length kinds
-  pub none : index < length kinds → IsViable standard (take (index + 1) kinds) → ⊥
+  pub before : IsViable standard (take index kinds)
+  pub at : index < length kinds → IsViable standard (take (index + 1) kinds) → ⊥
 
--- an error does not come before the first token with which no program begins
-abbrev pub IsNotEarly : List TokenKind → ParseError → Type 0
-IsNotEarly kinds error.Memory = Unit {0}
-IsNotEarly kinds (error.Syntax token code) = NoneBegins kinds token
+-- an error names the first token with which no program begins
+abbrev pub NamesFirstWrong : List TokenKind → ParseError → Type 0
+NamesFirstWrong kinds error.Memory = Unit {0}
+NamesFirstWrong kinds (error.Syntax token code) = IsFirstWrong kinds token

@@ -2,7 +2,7 @@ ghost use Rattle.std.specs.Prelude.{◌≡◌, ◌≤◌, length, IfErr, IfOk, M
 ghost use Rattle.mp_ast.specs.declared.blocks.Tree.{Tree as SyntaxTree};
 ghost use Rattle.mp_ast.specs.Programs.{Derives, kinds_of, standard};
 ghost use Rattle.mp_parse.specs.Errors as spec;
-ghost use Rattle.mp_parse.specs.Errors.{IsNotEarly};
+ghost use Rattle.mp_parse.specs.Errors.{NamesFirstWrong};
 ghost use Rattle.mp_parse.specs.declared.errors.ParseError.TheVariants as error;
 
 use crate::blocks::program;
@@ -32,12 +32,12 @@ fn error_of(failure: Failure, count: usize) -> ParseError
 
 /// The tree of the program that the tokens are (ISO 7185, 6.2 to 6.10), by their kinds alone.
 ///
-/// Where they are no program, the error names a token with which no program begins, by its index; the number of tokens
-/// stands for the end. That it is the first such token, and its code, is not promised yet.
+/// Where they are no program, the error names the first token with which no program begins, by its index; the number of
+/// tokens stands for the end. Its code is not promised yet.
 pub fn parse(alloc: Global, lexed: &Lexed) -> Result<Tree, ParseError>
     requires { length lexed.now.tokens ≤ TEXT_LIMIT }
     ensures tree { IfOk result (λ t. Derives standard (kinds_of lexed.now.tokens) t) }
-    ensures error { IfErr result (λ e. IsNotEarly (kinds_of lexed.now.tokens) e) }
+    ensures error { IfErr result (λ e. NamesFirstWrong (kinds_of lexed.now.tokens) e) }
     ensures only { (t : SyntaxTree) → Derives standard (kinds_of lexed.now.tokens) t → MatchResult result (λ found. found ≡ t) (λ e. e ≡ error.Memory) }
 {
     let tokens = lexed.tokens.get();

@@ -1,9 +1,9 @@
 use Rattle.std.proofs.Common.{length, sym, ap, ◌∙◌, subst, arith}
 use Rattle.mp_ast.specs.Programs.{kinds_of, standard}
 use Rattle.mp_cursor.specs.Parsers.{left}
-use Rattle.mp_parse.specs.Errors.{IsNotEarly, NoneBegins, error_of}
+use Rattle.mp_parse.specs.Errors.{NamesFirstWrong, IsFirstWrong, error_of}
 use Rattle.mp_parse.proofs.ProgramLemmas.{only_memory, no_rest, same_tree, is_derived}
-use Rattle.mp_parse.proofs.ErrorLemmas.{error_clause, rest_is_not_early, same_count}
+use Rattle.mp_parse.proofs.ErrorLemmas.{error_clause, rest_is_first, same_count}
 use Rattle.mp_parse.proofs.parser.parse.Goals as goal
 
 pub returns-in-Err-clause-only : goal.returns-in-Err-clause-only
@@ -14,7 +14,7 @@ returns-in-Err-clause-error c =
     let tokens = c.args.lexed.now.tokens in
     let count = same_count tokens ∙ ap (λ t. length t) (sym c.get-tokens.ensures) in
     let stop = error_clause (kinds_of tokens) c.in-Err.failure (λ n. rw (← c.get-tokens.ensures, ← c.new-cursor.ensures) (c.in-Err.ensures n)) in
-    subst (λ e. IsNotEarly (kinds_of tokens) e) (sym c.error_of.ensures) (subst (λ n. IsNotEarly (kinds_of tokens) (error_of c.in-Err.failure n)) count stop)
+    subst (λ e. NamesFirstWrong (kinds_of tokens) e) (sym c.error_of.ensures) (subst (λ n. NamesFirstWrong (kinds_of tokens) (error_of c.in-Err.failure n)) count stop)
 
 pub returns-then-left-gt0-clause-only : goal.returns-then-left-gt0-clause-only
 unfolding left
@@ -28,8 +28,8 @@ returns-then-left-gt0-clause-error c =
     let l = c.left-left.ensures in
     let h = c.if-left-gt0.true in
     let s = c.saturating_sub-token.ensures in
-    subst (λ n. NoneBegins (kinds_of tokens) n) (omega arith)
-    (rest_is_not_early (kinds_of tokens) c.in-Ok.found c.program.new.tokens (rw (← c.get-tokens.ensures, ← c.new-cursor.ensures) c.in-Ok.ensures) (omega arith))
+    subst (λ n. IsFirstWrong (kinds_of tokens) n) (omega arith)
+    (rest_is_first (kinds_of tokens) c.in-Ok.found c.program.new.tokens (rw (← c.get-tokens.ensures, ← c.new-cursor.ensures) c.in-Ok.ensures) (omega arith))
 
 pub returns-clause-tree : goal.returns-clause-tree
 unfolding left
