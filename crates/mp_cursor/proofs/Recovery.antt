@@ -1,18 +1,16 @@
 -- Where a parser stops, what its rule allows begins with the tokens taken so far: they can be finished. The ending is
 -- chosen before what follows it, so that what follows may be finished in the same way.
-use Rattle.std.proofs.Common.{◌≡◌, ◌≢◌, ℕ, ◌+◌, ◌<◌, ◌≤◌, Bool, true, false, not, List, [], ◌∷◌, ◌++◌, length, Ok, Err, refl, sym, ap, ◌∙◌, subst, append_assoc, arith, ◌⊎◌, inl, inr}
-use Rattle.std.proofs.lemmas.List.{append-nil}
+use Rattle.std.proofs.Common.{◌≡◌, ℕ, ◌+◌, ◌<◌, ◌≤◌, Bool, true, false, not, List, [], ◌∷◌, ◌++◌, length, Ok, Err, refl, sym, ap, ◌∙◌, subst, append_assoc, arith, ◌⊎◌, inl, inr}
 use Rattle.std.specs.Prelude.{if◌then◌else◌}
 use Rattle.mp_ast.specs.declared.tokens.TokenKind.{TokenKind}
 use Rattle.mp_ast.specs.declared.words.WordSymbol.TheVariants as w
 use Rattle.mp_ast.specs.Rules.{Input, Rule, gives, token, Many, no_more, one_more, many}
 use Rattle.mp_ast.specs.Rules as rule
-use Rattle.mp_ast.specs.declared.tokens.TokenKind.TheVariants.{Word}
 use Rattle.mp_ast.specs.Rules.{◌>>=◌ as ◌>>=ʳ◌, ◌<$>◌ as ◌<$>ʳ◌, ◌<|>◌ as ◌<|>ʳ◌}
 use Rattle.mp_cursor.specs.declared.failure.Failure.{Failure}
 use Rattle.mp_cursor.specs.declared.next.Next.TheVariants as next
 use Rattle.mp_cursor.specs.Nexts.{next_of, class_of, is, Nexts}
-use Rattle.mp_cursor.specs.Parsers.{Outcome, Parser, and_then, ◌>>=◌, pure, branch, next_token, expect, wrong}
+use Rattle.mp_cursor.specs.Parsers.{Outcome, Parser, and_then, ◌>>=◌, pure, branch, next_token}
 use Rattle.mp_cursor.proofs.Settled.{Settled, Settles, put, place, stopped}
 
 -- the grammar looks past the tokens of a rule at one place: whether an `else` follows
@@ -85,49 +83,67 @@ module _ {A B : Type 0} (r : Rule A) (s : A → Rule B) where
   pub moves_then : Moves r → ((x : A) → Moves (s x)) → Moves (r >>=ʳ s)
   moves_then a b i y j d =
       let f = a i d.0 d.1 d.2 in
-      let g = b d.0 d.1 y j d.3 in
-      ( f.0 ++ g.0
-      , f.1 ∙ ap (λ ks. f.0 ++ ks) g.1 ∙ sym (append_assoc f.0 g.0 j.rest)
-      , λ t h. (d.0, put d.1 (g.0 ++ t), subst (λ ks. r (put i ks) d.0 (put d.1 (g.0 ++ t))) (sym (append_assoc f.0 g.0 t)) (f.2 (g.0 ++ t) (instead_behind g.0 j.rest t d.1.rest g.1 h)), g.2 t h)
+      let g = b d.0 d.1 y j d.3 in (
+        f.0 ++ g.0,
+        f.1 ∙ ap (λ ks. f.0 ++ ks) g.1 ∙ sym (append_assoc f.0 g.0 j.rest),
+        λ t h. (d.0, put d.1 (g.0 ++ t), subst (λ ks. r (put i ks) d.0 (put d.1 (g.0 ++ t))) (sym (append_assoc f.0 g.0 t)) (f.2 (g.0 ++ t) (instead_behind g.0 j.rest t d.1.rest g.1 h)), g.2 t h),
       )
 
   pub ends_then : Ends r → ((x : A) → Ends (s x)) → Ends (r >>=ʳ s)
   ends_then a b i =
       let f = a i in
-      let g = b f.1 f.2 in
-      ( f.0 ++ g.0, g.1, g.2
-      , λ t o. subst Open (sym (append_assoc f.0 g.0 t)) (f.3 (g.0 ++ t) (g.3 t o))
-      , λ t o. (f.1, put f.2 (g.0 ++ t), subst (λ ks. r (put i ks) f.1 (put f.2 (g.0 ++ t))) (sym (append_assoc f.0 g.0 t)) (f.4 (g.0 ++ t) (g.3 t o)), g.4 t o)
+      let g = b f.1 f.2 in (
+        f.0 ++ g.0,
+        g.1,
+        g.2,
+        λ t o. subst Open (sym (append_assoc f.0 g.0 t)) (f.3 (g.0 ++ t) (g.3 t o)),
+        λ t o. (f.1, put f.2 (g.0 ++ t), subst (λ ks. r (put i ks) f.1 (put f.2 (g.0 ++ t))) (sym (append_assoc f.0 g.0 t)) (f.4 (g.0 ++ t) (g.3 t o)), g.4 t o),
       )
 
   -- the one stops
   pub front_first : (i : Input) (n : ℕ) → Front r i n → ((x : A) → Ends (s x)) → Front (r >>=ʳ s) i n
   front_first i n f b =
-      let g = b f.3 f.4 in
-      ( f.0, f.1, f.2 ++ g.0, g.1, g.2, f.5, f.6
-      , λ t o. (f.3, put f.4 (g.0 ++ t), subst (λ ks. r (put i (f.0 ++ ks)) f.3 (put f.4 (g.0 ++ t))) (sym (append_assoc f.2 g.0 t)) (f.7 (g.0 ++ t) (g.3 t o)), g.4 t o)
+      let g = b f.3 f.4 in (
+        f.0,
+        f.1,
+        f.2 ++ g.0,
+        g.1,
+        g.2,
+        f.5,
+        f.6,
+        λ t o. (f.3, put f.4 (g.0 ++ t), subst (λ ks. r (put i (f.0 ++ ks)) f.3 (put f.4 (g.0 ++ t))) (sym (append_assoc f.2 g.0 t)) (f.7 (g.0 ++ t) (g.3 t o)), g.4 t o),
       )
 
   -- the other stops behind its first token
   pub front_second : (i : Input) (x : A) (m : Input) (n : ℕ) → Taken r i x m → Front (s x) m n → n < length m.rest → Front (r >>=ʳ s) i n
-  front_second i x m n f g l =
-      ( f.0 ++ g.0, g.1, g.2, g.3, g.4
-      , f.1 ∙ ap (λ ks. f.0 ++ ks) g.5 ∙ sym (append_assoc f.0 g.0 g.1)
-      , g.6
-      , λ t o.
-          ( x
-          , put m (g.0 ++ (g.2 ++ t))
-          , subst (λ ks. r (put i ks) x (put m (g.0 ++ (g.2 ++ t)))) (sym (append_assoc f.0 g.0 (g.2 ++ t))) (f.2 (g.0 ++ (g.2 ++ t)) (same_instead g.0 g.1 (g.2 ++ t) m.rest g.5 (let q = g.6 in omega arith)))
-          , g.7 t o
-          )
-      )
+  front_second i x m n f g l = (
+    f.0 ++ g.0,
+    g.1,
+    g.2,
+    g.3,
+    g.4,
+    f.1 ∙ ap (λ ks. f.0 ++ ks) g.5 ∙ sym (append_assoc f.0 g.0 g.1),
+    g.6,
+    λ t o. (
+      x,
+      put m (g.0 ++ (g.2 ++ t)),
+      subst (λ ks. r (put i ks) x (put m (g.0 ++ (g.2 ++ t)))) (sym (append_assoc f.0 g.0 (g.2 ++ t))) (f.2 (g.0 ++ (g.2 ++ t)) (same_instead g.0 g.1 (g.2 ++ t) m.rest g.5 (let q = g.6 in omega arith))),
+      g.7 t o,
+    ),
+  )
 
   -- the other stops at its first token
   pub front_between : (i : Input) (x : A) (m : Input) (n : ℕ) → Taken r i x m → Ending (s x) m → n ≡ length m.rest → Front (r >>=ʳ s) i n
-  front_between i x m n f g e =
-      ( f.0, m.rest, g.0, g.1, g.2, f.1, sym e
-      , λ t o. (x, put m (g.0 ++ t), f.2 (g.0 ++ t) (open_instead (g.0 ++ t) m.rest (g.3 t o)), g.4 t o)
-      )
+  front_between i x m n f g e = (
+    f.0,
+    m.rest,
+    g.0,
+    g.1,
+    g.2,
+    f.1,
+    sym e,
+    λ t o. (x, put m (g.0 ++ t), f.2 (g.0 ++ t) (open_instead (g.0 ++ t) m.rest (g.3 t o)), g.4 t o),
+  )
 
 -- a failure is no place behind the tokens
 inside_by : {A : Type 0} (p : Parser A) (i : Input) (e : Failure) (o : Outcome A) → Settled p i o → o ≡ stopped e → (place e < length i.rest) ⊎ (place e ≡ length i.rest)
@@ -217,10 +233,10 @@ pub moves_many : {A : Type 0} (r : Rule A) → Moves r → (j : Input) (xs : Lis
 moves_many r a j _ _ no_more = ([], refl, λ t h. no_more)
 moves_many r a j _ _ (one_more x xs i m d ds) =
     let f = a i x m d in
-    let g = moves_many r a j xs m ds in
-    ( f.0 ++ g.0
-    , f.1 ∙ ap (λ ks. f.0 ++ ks) g.1 ∙ sym (append_assoc f.0 g.0 j.rest)
-    , λ t h. one_more x xs (put i ((f.0 ++ g.0) ++ t)) (put m (g.0 ++ t)) (subst (λ ks. r (put i ks) x (put m (g.0 ++ t))) (sym (append_assoc f.0 g.0 t)) (f.2 (g.0 ++ t) (instead_behind g.0 j.rest t m.rest g.1 h))) (g.2 t h)
+    let g = moves_many r a j xs m ds in (
+      f.0 ++ g.0,
+      f.1 ∙ ap (λ ks. f.0 ++ ks) g.1 ∙ sym (append_assoc f.0 g.0 j.rest),
+      λ t h. one_more x xs (put i ((f.0 ++ g.0) ++ t)) (put m (g.0 ++ t)) (subst (λ ks. r (put i ks) x (put m (g.0 ++ t))) (sym (append_assoc f.0 g.0 t)) (f.2 (g.0 ++ t) (instead_behind g.0 j.rest t m.rest g.1 h))) (g.2 t h),
     )
 
 pub ends_many : {A : Type 0} (r : Rule A) → Ends (many r)

@@ -27,7 +27,7 @@ use Rattle.mp_cursor.proofs.ChoiceLaws.{law_branch}
 use Rattle.mp_cursor.proofs.ListLaws.{Falls, falls_then, falls_last, falls_symbol, falls_identifier, law_many_from, law_separated}
 use Rattle.mp_cursor.proofs.ConstantLaws.{law_constant, constant_begins}
 use Rattle.mp_parse_type.proofs.TypeLaws.{law_denoter, law_section, denoter_begins}
-use Rattle.mp_parse_stmt.proofs.StatementLaws.{law_sequence_behind, statement_begins}
+use Rattle.mp_parse_stmt.proofs.StatementLaws.{law_sequence_behind}
 use Rattle.mp_parse.specs.Blocks as p
 
 -- ---- in general

@@ -19,7 +19,7 @@ use Rattle.mp_cursor.specs.declared.next.Next.TheVariants.{Word, Symbol}
 use Rattle.mp_cursor.specs.Nexts.{Nexts, is, any, either, among, but}
 use Rattle.mp_cursor.specs.Parsers.{Parser, ◌>>=◌, ◌>>◌, ◌<$>◌, pure, expect}
 use Rattle.mp_cursor.proofs.NextSets.{apart, within_any, within_itself}
-use Rattle.mp_cursor.proofs.Laws.{Law, law_pure, law_then, law_map, law_followed, law_begun, law_as, law_word, law_symbol, law_never, symbol_only}
+use Rattle.mp_cursor.proofs.Laws.{Law, law_pure, law_then, law_map, law_followed, law_begun, law_as, law_word, law_symbol, symbol_only}
 use Rattle.mp_cursor.proofs.SameRules.{same_refl, same_sym, same_trans, same_or, or_grouped, or_swapped, then_grouped, factored, map_first}
 use Rattle.mp_cursor.proofs.LeafLaws.{law_identifier, law_number, law_string, has_room, law_opened_word, law_opened_symbol}
 use Rattle.mp_cursor.proofs.ChoiceLaws.{law_branch, law_branch_first, law_optional}

@@ -197,8 +197,11 @@ module _ {A B C : Type 0} {u : Bool} {first inner begin : Nexts} {p : Parser A} 
       first_stops : ((place e < length m.rest) × Front r m (place e)) ⊎ (place e ≡ length m.rest) → Inside found i e
       first_stops (inl w) =
           let v = w.0 in
-          inl (omega (arith, v, l), front_as ((token k >>ʳ r) >>=ʳ (λ x. All (found ++ x ∷ []))) (All found) i (place e) (in_front found)
-          (front_first (token k >>ʳ r) (λ x. All (found ++ x ∷ [])) i (place e) (front_second (token k) (λ at. r) i at m (place e) (moves_token k i at m d) w.1 w.0) (λ x. ends_all (found ++ x ∷ []))))
+          inl (
+            omega (arith, v, l),
+            front_as ((token k >>ʳ r) >>=ʳ (λ x. All (found ++ x ∷ []))) (All found) i (place e) (in_front found)
+                (front_first (token k >>ʳ r) (λ x. All (found ++ x ∷ [])) i (place e) (front_second (token k) (λ at. r) i at m (place e) (moves_token k i at m d) w.1 w.0) (λ x. ends_all (found ++ x ∷ []))),
+          )
       first_stops (inr w) = inl (omega (arith, w, l), after_separator found i at m d (place e) w)
   item_stops more found i at m e d ih (Ok x) g h = second_stops (ih (found ++ x.0 ∷ []) x.1 e h)
     where
@@ -214,11 +217,17 @@ module _ {A B C : Type 0} {u : Bool} {first inner begin : Nexts} {p : Parser A} 
       second_stops : ((place e < length x.1.rest) × Front (All (found ++ x.0 ∷ [])) x.1 (place e)) ⊎ (place e ≡ length x.1.rest) → Inside found i e
       second_stops (inl w) =
           let v = w.0 in
-          inl (omega (arith, v, l, n_), front_as ((token k >>ʳ r) >>=ʳ (λ x. All (found ++ x ∷ []))) (All found) i (place e) (in_front found)
-          (front_second (token k >>ʳ r) (λ x. All (found ++ x ∷ [])) i x.0 x.1 (place e) taken w.1 w.0))
+          inl (
+            omega (arith, v, l, n_),
+            front_as ((token k >>ʳ r) >>=ʳ (λ x. All (found ++ x ∷ []))) (All found) i (place e) (in_front found)
+                (front_second (token k >>ʳ r) (λ x. All (found ++ x ∷ [])) i x.0 x.1 (place e) taken w.1 w.0),
+          )
       second_stops (inr w) =
-          inl (omega (arith, w, l, n_), front_as ((token k >>ʳ r) >>=ʳ (λ x. All (found ++ x ∷ []))) (All found) i (place e) (in_front found)
-          (front_between (token k >>ʳ r) (λ x. All (found ++ x ∷ [])) i x.0 x.1 (place e) taken (ends_all (found ++ x.0 ∷ []) x.1) w))
+          inl (
+            omega (arith, w, l, n_),
+            front_as ((token k >>ʳ r) >>=ʳ (λ x. All (found ++ x ∷ []))) (All found) i (place e) (in_front found)
+                (front_between (token k >>ʳ r) (λ x. All (found ++ x ∷ [])) i x.0 x.1 (place e) taken (ends_all (found ++ x.0 ∷ []) x.1) w),
+          )
 
   behind_stops : (more : List A → Parser B) (found : List A) (i : Input) (at : ℕ) (m : Input) (e : Failure) → token k i at m → ((z : List A) → Stops (more z) (All z)) → (b : Bool) → (if b then (and_one p found >>= more) m else with_last found m) ≡ stopped e → Inside found i e
   behind_stops more found i at m e d ih true h = item_stops more found i at m e d ih (p m) refl h
