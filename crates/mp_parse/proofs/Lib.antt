@@ -3,6 +3,7 @@ pub mod PartLaws
 pub mod DeclarationLaws
 pub mod ProgramLemmas
 pub mod ErrorLemmas
+pub mod FoundLemmas
 pub mod Moves
 pub mod MovesExpressions
 pub mod MovesStatements

@@ -1,8 +1,8 @@
-ghost use Rattle.std.specs.Prelude.{◌≡◌, ◌≤◌, length, IfErr, IfOk, MatchResult};
+ghost use Rattle.std.specs.Prelude.{◌≡◌, ◌≢◌, ◌≤◌, length, IfErr, IfOk, MatchResult, None};
 ghost use Rattle.mp_ast.specs.declared.blocks.Tree.{Tree as SyntaxTree};
 ghost use Rattle.mp_ast.specs.Programs.{Derives, kinds_of, standard};
 ghost use Rattle.mp_parse.specs.Errors as spec;
-ghost use Rattle.mp_parse.specs.Errors.{NamesFirstWrong};
+ghost use Rattle.mp_parse.specs.Errors.{NamesFirstWrong, first_error, told};
 ghost use Rattle.mp_parse.specs.declared.errors.ParseError.TheVariants as error;
 
 use crate::blocks::program;
@@ -38,6 +38,7 @@ pub fn parse(alloc: Global, lexed: &Lexed) -> Result<Tree, ParseError>
     requires { length lexed.now.tokens ≤ TEXT_LIMIT }
     ensures tree { IfOk result (λ t. Derives standard (kinds_of lexed.now.tokens) t) }
     ensures error { IfErr result (λ e. NamesFirstWrong (kinds_of lexed.now.tokens) e) }
+    ensures found { MatchResult result (λ t. first_error (kinds_of lexed.now.tokens) ≡ None) (λ e. e ≢ error.Memory → first_error (kinds_of lexed.now.tokens) ≡ told e) }
     ensures only { (t : SyntaxTree) → Derives standard (kinds_of lexed.now.tokens) t → MatchResult result (λ found. found ≡ t) (λ e. e ≡ error.Memory) }
 {
     let tokens = lexed.tokens.get();

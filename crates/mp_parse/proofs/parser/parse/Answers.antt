@@ -1,9 +1,11 @@
-use Rattle.std.proofs.Common.{length, sym, ap, ◌∙◌, subst, arith}
+use Rattle.std.proofs.Common.{◌≡◌, ◌≢◌, Some, length, sym, ap, ◌∙◌, subst, arith}
 use Rattle.mp_ast.specs.Programs.{kinds_of, standard}
+use Rattle.mp_parse.specs.declared.errors.ParseError.TheVariants as error
 use Rattle.mp_cursor.specs.Parsers.{left}
-use Rattle.mp_parse.specs.Errors.{NamesFirstWrong, IsFirstWrong, error_of}
+use Rattle.mp_parse.specs.Errors.{NamesFirstWrong, IsFirstWrong, error_of, first_error, told}
 use Rattle.mp_parse.proofs.ProgramLemmas.{only_memory, no_rest, same_tree, is_derived}
 use Rattle.mp_parse.proofs.ErrorLemmas.{error_clause, rest_is_first, same_count}
+use Rattle.mp_parse.proofs.FoundLemmas.{stop_found, rest_found, none_found}
 use Rattle.mp_parse.proofs.parser.parse.Goals as goal
 
 pub returns-in-Err-clause-only : goal.returns-in-Err-clause-only
@@ -37,3 +39,26 @@ returns-clause-tree c = is_derived standard _ c.in-Ok.found c.program.new.tokens
 
 pub returns-clause-only : goal.returns-clause-only
 returns-clause-only c = λ t d. same_tree standard _ c.in-Ok.found t c.program.new.tokens (rw (← c.get-tokens.ensures, ← c.new-cursor.ensures) c.in-Ok.ensures) d
+
+pub returns-in-Err-clause-found : goal.returns-in-Err-clause-found
+returns-in-Err-clause-found c =
+    let tokens = c.args.lexed.now.tokens in
+    let count = same_count tokens ∙ ap (λ t. length t) (sym c.get-tokens.ensures) in
+    let stop = stop_found (kinds_of tokens) c.in-Err.failure (λ n. rw (← c.get-tokens.ensures, ← c.new-cursor.ensures) (c.in-Err.ensures n)) in
+    subst (λ e. e ≢ error.Memory → first_error (kinds_of tokens) ≡ told e) (sym c.error_of.ensures)
+    (subst (λ n. error_of c.in-Err.failure n ≢ error.Memory → first_error (kinds_of tokens) ≡ told (error_of c.in-Err.failure n)) count stop)
+
+pub returns-then-left-gt0-clause-found : goal.returns-then-left-gt0-clause-found
+unfolding left
+returns-then-left-gt0-clause-found c =
+    let tokens = c.args.lexed.now.tokens in
+    let count = same_count tokens ∙ ap (λ t. length t) (sym c.get-tokens.ensures) in
+    let l = c.left-left.ensures in
+    let h = c.if-left-gt0.true in
+    let s = c.saturating_sub-token.ensures in
+    λ n. subst (λ m. first_error (kinds_of tokens) ≡ Some (record { token = m; code = 205 })) (omega arith)
+    (rest_found (kinds_of tokens) c.in-Ok.found c.program.new.tokens (rw (← c.get-tokens.ensures, ← c.new-cursor.ensures) c.in-Ok.ensures) (omega arith))
+
+pub returns-clause-found : goal.returns-clause-found
+unfolding left
+returns-clause-found c = none_found _ c.in-Ok.found c.program.new.tokens (rw (← c.get-tokens.ensures, ← c.new-cursor.ensures) c.in-Ok.ensures) (let l = c.left-left.ensures in let h = c.if-left-gt0.false in omega arith)
