@@ -76,7 +76,7 @@ falls_deeper (suc depth) a = a
 
 -- ---- what follows a heading
 
-law_forward : Law true (is next.Identifier) any p.forward_directive g.forward_directive
+pub law_forward : Law true (is next.Identifier) any p.forward_directive g.forward_directive
 unfolding p.forward_directive
 law_forward = law_then (law_directive (codes "forward")) (within_any any) (λ at. law_pure (body.Forward at, []) any)
 
@@ -209,7 +209,7 @@ module _ (limits : Limits) where
 
   -- ---- programs
 
-  law_parameters : Law true (either (is (Symbol s.LeftParen)) (is (Symbol s.Semicolon))) (is (Symbol s.Semicolon)) (p.parameters limits) (g.part (g.program_parameters limits))
+  pub law_parameters : Law true (either (is (Symbol s.LeftParen)) (is (Symbol s.Semicolon))) (is (Symbol s.Semicolon)) (p.parameters limits) (g.part (g.program_parameters limits))
   unfolding p.parameters p.some_parameters
   law_parameters =
       law_branch (is (Symbol s.LeftParen))

@@ -1,9 +1,11 @@
 -- Where the parser of programs stops, a program begins with the tokens before, and none with the next one.
-use Rattle.std.proofs.Common.{◌≡◌, ◌⊎◌, inl, inr, ℕ, zero, suc, ◌+◌, ◌-◌, ◌<◌, List, [], ◌∷◌, ◌++◌, length, length-append, take, Ok, Err, refl, sym, ap, ◌∙◌, subst, append_assoc, arith}
+use Rattle.std.proofs.Common.{◌≡◌, ◌⊎◌, inl, inr, ℕ, zero, suc, ◌+◌, ◌-◌, ◌<◌, ◌≤◌, List, [], ◌∷◌, ◌++◌, length, length-append, take, Ok, Err, refl, sym, ap, ◌∙◌, subst, append_assoc, arith}
+use Rattle.std.proofs.lemmas.List.{append-nil}
 use Rattle.mp_ast.specs.declared.tokens.TokenKind.{TokenKind}
 use Rattle.mp_ast.specs.declared.blocks.Tree.{Tree}
 use Rattle.mp_ast.specs.Rules.{Input}
 use Rattle.mp_ast.specs.declared.tokens.Token.{Token}
+use Rattle.mp_ast.specs.BlockGrammar.{Limits}
 use Rattle.mp_ast.specs.Programs.{Derives, IsViable, standard, start_of, kinds_of}
 use Rattle.mp_cursor.specs.declared.failure.Failure.{Failure}
 use Rattle.mp_cursor.specs.declared.failure.Failure.TheVariants.{Memory, Wrong, TooDeep, TooMany}
@@ -13,9 +15,22 @@ use Rattle.mp_ast.specs.BlockGrammar as grammar
 use Rattle.mp_cursor.proofs.Recovery.{Front, stops_inside}
 use Rattle.mp_cursor.proofs.Settled.{Settled, first_kind, place, moved, put}
 use Rattle.mp_parse.specs.Blocks.{program}
-use Rattle.mp_parse.specs.Errors.{IsFirstWrong, NamesFirstWrong, error_of}
+use Rattle.mp_parse.specs.Errors.{error_of}
+use Rattle.mp_parse.specs.declared.errors.ParseError.{ParseError}
+use Rattle.mp_parse.specs.declared.errors.ParseError.TheVariants as error
 use Rattle.mp_parse.proofs.DeclarationLaws.{Room, law_program}
 use Rattle.mp_parse.proofs.ProgramLemmas.{parsed, stopped, reads_program}
+
+-- A program begins with the tokens before the one with this index, and none with this one as well. The number of tokens
+-- stands for the end, where there is no token more.
+pub record IsFirstWrong (kinds : List TokenKind) (index : ℕ) : Type 0 where
+  pub within : index ≤ length kinds
+  pub before : IsViable standard (take index kinds)
+  pub at : index < length kinds → IsViable standard (take (index + 1) kinds) → ⊥
+
+abbrev pub NamesFirstWrong : List TokenKind → ParseError → Type 0
+NamesFirstWrong kinds error.Memory = Unit {0}
+NamesFirstWrong kinds (error.Syntax token code) = IsFirstWrong kinds token
 
 -- ---- lists of tokens
 
@@ -59,13 +74,13 @@ index_is : (kinds c b : List TokenKind) (left : ℕ) → kinds ≡ c ++ b → le
 index_is kinds c b left e n = let l = ap (λ ks. length ks) e in let s = length-append c b in omega arith
 
 -- a program begins with the tokens before the last so many
-abbrev ViableBefore : List TokenKind → ℕ → Type 0
-ViableBefore kinds left = (index : ℕ) → index + left ≡ length kinds → IsViable standard (take index kinds)
+abbrev pub ViableBefore : Limits → List TokenKind → ℕ → Type 0
+ViableBefore limits kinds left = (index : ℕ) → index + left ≡ length kinds → IsViable limits (take index kinds)
 
-before_at : (kinds c b : List TokenKind) (left index : ℕ) → kinds ≡ c ++ b → left ≡ length b → index ≡ length c → ViableBefore kinds left → IsViable standard (take index kinds)
+before_at : (kinds c b : List TokenKind) (left index : ℕ) → kinds ≡ c ++ b → left ≡ length b → index ≡ length c → ViableBefore standard kinds left → IsViable standard (take index kinds)
 before_at kinds c b left index e n f v = v index (let l = ap (λ ks. length ks) e in let s = length-append c b in omega arith)
 
-not_early : (kinds c b : List TokenKind) (e : Failure) → kinds ≡ c ++ b → place e ≡ length b → ViableBefore kinds (place e) → Begins c b → NamesFirstWrong kinds (error_of e (length kinds))
+not_early : (kinds c b : List TokenKind) (e : Failure) → kinds ≡ c ++ b → place e ≡ length b → ViableBefore standard kinds (place e) → Begins c b → NamesFirstWrong kinds (error_of e (length kinds))
 not_early kinds c b Memory h n v f = tt
 not_early kinds c b (Wrong zero) h n v f =
     let e : length kinds ≡ length c = let l = ap (λ ks. length ks) h in let s = length-append c b in omega arith in
@@ -74,44 +89,57 @@ not_early kinds c b (Wrong (suc left)) h n v f = none_at kinds c b (length kinds
 not_early kinds c b (TooDeep left) h n v f = none_at kinds c b (length kinds - left) h (index_is kinds c b left h n) (before_at kinds c b left (length kinds - left) h n (index_is kinds c b left h n) v) f
 not_early kinds c b (TooMany left) h n v f = none_at kinds c b (length kinds - left) h (index_is kinds c b left h n) (before_at kinds c b left (length kinds - left) h n (index_is kinds c b left h n) v) f
 
-settled_stop : (kinds : List TokenKind) (e : Failure) (o : Outcome Tree) → o ≡ stopped e → ViableBefore kinds (place e) → Settled (program standard) (start_of kinds) o → NamesFirstWrong kinds (error_of e (length kinds))
+settled_stop : (kinds : List TokenKind) (e : Failure) (o : Outcome Tree) → o ≡ stopped e → ViableBefore standard kinds (place e) → Settled (program standard) (start_of kinds) o → NamesFirstWrong kinds (error_of e (length kinds))
 settled_stop kinds e (Ok x) h v s = absurd (let n : ⊥ = cc in n)
 settled_stop kinds e (Err f) h v s =
     let same = failure_is f e h in
-    subst (λ g. NamesFirstWrong kinds (error_of g (length kinds))) same (not_early kinds s.0 s.1 f s.2 s.3 (subst (λ g. ViableBefore kinds (place g)) (sym same) v) (none_behind s.0 s.1 f s.4))
+    subst (λ g. NamesFirstWrong kinds (error_of g (length kinds))) same (not_early kinds s.0 s.1 f s.2 s.3 (subst (λ g. ViableBefore standard kinds (place g)) (sym same) v) (none_behind s.0 s.1 f s.4))
   where
     failure_is : (f e : Failure) → stopped f ≡ stopped e → f ≡ e
     failure_is f e h = cc
 
 -- ---- a program begins with what is before
 
-granted : Room standard
+pub granted : Room standard
 granted = refl
 
 take_all : (c d : List TokenKind) → take (length c) (c ++ d) ≡ c
 take_all [] d = refl
 take_all (k ∷ c) d = ap (λ ks. k ∷ ks) (take_all c d)
 
-begins_with : (kinds c d : List TokenKind) (index : ℕ) → kinds ≡ c ++ d → index + length d ≡ length kinds → IsViable standard c → IsViable standard (take index kinds)
-begins_with kinds c d index e n v =
-    let same : index ≡ length c = let l = ap (λ ks. length ks) e in let s = length-append c d in omega arith in
-    subst (λ ks. IsViable standard ks) (sym (ap (λ ks. take index ks) e ∙ ap (λ m. take m (c ++ d)) same ∙ take_all c d)) v
+module _ (limits : Limits) (room : Room limits) where
+  begins_with : (kinds c d : List TokenKind) (index : ℕ) → kinds ≡ c ++ d → index + length d ≡ length kinds → IsViable limits c → IsViable limits (take index kinds)
+  begins_with kinds c d index e n v =
+      let same : index ≡ length c = let l = ap (λ ks. length ks) e in let s = length-append c d in omega arith in
+      subst (λ ks. IsViable limits ks) (sym (ap (λ ks. take index ks) e ∙ ap (λ m. take m (c ++ d)) same ∙ take_all c d)) v
 
-front_begins : (kinds : List TokenKind) (left index : ℕ) → Front (grammar.program standard) (start_of kinds) left → index + left ≡ length kinds → IsViable standard (take index kinds)
-front_begins kinds left index f n = begins_with kinds f.0 f.1 index f.5 (let m = f.6 in omega arith) (f.2 ++ [], (f.3, (put f.4 [], f.7 [] refl, refl)))
+  front_begins : (kinds : List TokenKind) (left index : ℕ) → Front (grammar.program limits) (start_of kinds) left → index + left ≡ length kinds → IsViable limits (take index kinds)
+  front_begins kinds left index f n = begins_with kinds f.0 f.1 index f.5 (let m = f.6 in omega arith) (f.2 ++ [], (f.3, (put f.4 [], f.7 [] refl, refl)))
 
-viable_by : (kinds : List TokenKind) (e : Failure) → parsed standard kinds ≡ stopped e → (place e < length kinds) ⊎ (place e ≡ length kinds) → ViableBefore kinds (place e)
-viable_by kinds e h (inl l) index n = front_begins kinds (place e) index ((law_program standard).recovers granted (start_of kinds) e h l) n
-viable_by kinds e h (inr l) index n =
-    let f = (law_program standard).ends granted refl (start_of kinds) in
-    begins_with kinds [] kinds index refl (let m = l in omega arith) (f.0 ++ [], (f.1, (put f.2 [], f.4 [] refl, refl)))
+  viable_by : (kinds : List TokenKind) (e : Failure) → parsed limits kinds ≡ stopped e → (place e < length kinds) ⊎ (place e ≡ length kinds) → ViableBefore limits kinds (place e)
+  viable_by kinds e h (inl l) index n = front_begins kinds (place e) index ((law_program limits).recovers room (start_of kinds) e h l) n
+  viable_by kinds e h (inr l) index n =
+      let f = (law_program limits).ends room refl (start_of kinds) in
+      begins_with kinds [] kinds index refl (let m = l in omega arith) (f.0 ++ [], (f.1, (put f.2 [], f.4 [] refl, refl)))
 
-viable_before : (kinds : List TokenKind) (e : Failure) → parsed standard kinds ≡ stopped e → ViableBefore kinds (place e)
-viable_before kinds e h = viable_by kinds e h (stops_inside (program standard) (law_program standard).settles (start_of kinds) e h)
+  -- before the token where the parser stops
+  pub viable_before : (kinds : List TokenKind) (e : Failure) → parsed limits kinds ≡ stopped e → ViableBefore limits kinds (place e)
+  viable_before kinds e h = viable_by kinds e h (stops_inside (program limits) (law_program limits).settles (start_of kinds) e h)
+
+  -- the tokens of a program, where the parser reads one
+  pub tree_before : (kinds : List TokenKind) (t : Tree) (j : Input) → parsed limits kinds ≡ read t j → (c : List TokenKind) × (kinds ≡ c ++ j.rest) × Derives limits c t
+  tree_before kinds t j h =
+      let f = (law_program limits).moves (start_of kinds) t j ((law_program limits).sound (start_of kinds) t j h) in
+      (f.0, f.1, (put j [], subst (λ ks. grammar.program limits (start_of ks) t (put j [])) (append-nil f.0) (f.2 [] (λ e. absurd (let z : ⊥ = cc in z))), refl))
+
+  pub program_before : (kinds : List TokenKind) (t : Tree) (j : Input) → parsed limits kinds ≡ read t j → ViableBefore limits kinds (length j.rest)
+  program_before kinds t j h index n =
+      let w = tree_before kinds t j h in
+      begins_with kinds w.0 j.rest index w.1 n ([], (t, subst (λ ks. Derives limits ks t) (sym (append-nil w.0)) w.2))
 
 -- where the parser stops
 pub stop_is_first : (kinds : List TokenKind) (e : Failure) → parsed standard kinds ≡ stopped e → NamesFirstWrong kinds (error_of e (length kinds))
-stop_is_first kinds e h = settled_stop kinds e (parsed standard kinds) h (viable_before kinds e h) ((law_program standard).settles (start_of kinds))
+stop_is_first kinds e h = settled_stop kinds e (parsed standard kinds) h (viable_before standard granted kinds e h) ((law_program standard).settles (start_of kinds))
 
 -- ---- tokens behind the program
 
@@ -124,7 +152,7 @@ no_rest_behind c (k ∷ b) t j some f h v =
     let n = ap (λ ks. length ks) w.2.2 in
     absurd (let z : ⊥ = omega arith in z)
 
-settled_read : (kinds : List TokenKind) (t : Tree) (j : Input) (o : Outcome Tree) → o ≡ read t j → ViableBefore kinds (length j.rest) → Settled (program standard) (start_of kinds) o → 0 < length j.rest → IsFirstWrong kinds (length kinds - length j.rest)
+settled_read : (kinds : List TokenKind) (t : Tree) (j : Input) (o : Outcome Tree) → o ≡ read t j → ViableBefore standard kinds (length j.rest) → Settled (program standard) (start_of kinds) o → 0 < length j.rest → IsFirstWrong kinds (length kinds - length j.rest)
 settled_read kinds t j (Err e) h v s n = absurd (let z : ⊥ = cc in z)
 settled_read kinds t j (Ok x) h v s n =
     let e = read_is x.0 t x.1 j h in
@@ -132,23 +160,12 @@ settled_read kinds t j (Ok x) h v s n =
     let some = subst (λ ks. 0 < length ks) (sym same) n in
     subst (λ ks. IsFirstWrong kinds (length kinds - length ks)) same
     (none_at kinds s.0 x.1.rest (length kinds - length x.1.rest) s.1 (index_is kinds s.0 x.1.rest (length x.1.rest) s.1 refl)
-    (before_at kinds s.0 x.1.rest (length x.1.rest) (length kinds - length x.1.rest) s.1 refl (index_is kinds s.0 x.1.rest (length x.1.rest) s.1 refl) (subst (λ ks. ViableBefore kinds (length ks)) (sym same) v)) (no_rest_behind s.0 x.1.rest x.0 x.1 some s.2))
-
-program_before : (kinds : List TokenKind) (t : Tree) (j : Input) → parsed standard kinds ≡ read t j → ViableBefore kinds (length j.rest)
-program_before kinds t j h index n =
-    let f = (law_program standard).moves (start_of kinds) t j ((law_program standard).sound (start_of kinds) t j h) in
-    begins_with kinds f.0 j.rest index f.1 n ([], (t, (put j [], f.2 [] (λ e. absurd (let z : ⊥ = cc in z)), refl)))
+    (before_at kinds s.0 x.1.rest (length x.1.rest) (length kinds - length x.1.rest) s.1 refl (index_is kinds s.0 x.1.rest (length x.1.rest) s.1 refl) (subst (λ ks. ViableBefore standard kinds (length ks)) (sym same) v)) (no_rest_behind s.0 x.1.rest x.0 x.1 some s.2))
 
 pub rest_is_first : (kinds : List TokenKind) (t : Tree) (j : Input) → parsed standard kinds ≡ read t j → 0 < length j.rest → IsFirstWrong kinds (length kinds - length j.rest)
-rest_is_first kinds t j h n = settled_read kinds t j (parsed standard kinds) h (program_before kinds t j h) ((law_program standard).settles (start_of kinds)) n
+rest_is_first kinds t j h n = settled_read kinds t j (parsed standard kinds) h (program_before standard granted kinds t j h) ((law_program standard).settles (start_of kinds)) n
 
 -- ---- for the code
-
-pub error_clause : (kinds : List TokenKind) (e : Failure) → ((e ≡ Memory → ⊥) → parsed standard kinds ≡ stopped e) → NamesFirstWrong kinds (error_of e (length kinds))
-error_clause kinds Memory h = tt
-error_clause kinds (Wrong n) h = stop_is_first kinds (Wrong n) (h (λ q. let m : ⊥ = cc in m))
-error_clause kinds (TooDeep n) h = stop_is_first kinds (TooDeep n) (h (λ q. let m : ⊥ = cc in m))
-error_clause kinds (TooMany n) h = stop_is_first kinds (TooMany n) (h (λ q. let m : ⊥ = cc in m))
 
 pub same_count : (tokens : List Token) → length (kinds_of tokens) ≡ length tokens
 same_count [] = refl

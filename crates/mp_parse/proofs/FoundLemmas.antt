@@ -1,5 +1,5 @@
 -- The first error is the one that the parser finds.
-use Rattle.std.proofs.Common.{◌≡◌, ◌≢◌, ℕ, zero, suc, ◌+◌, ◌-◌, ◌<◌, ◌≤◌, List, length, Some, None, Ok, Err, refl, sym, ap, ◌∙◌, arith}
+use Rattle.std.proofs.Common.{◌≡◌, ◌≢◌, ℕ, zero, suc, ◌-◌, ◌<◌, ◌≤◌, List, length, Some, None, refl, ap, ◌∙◌, arith}
 use Rattle.mp_ast.specs.declared.tokens.TokenKind.{TokenKind}
 use Rattle.mp_ast.specs.declared.blocks.Tree.{Tree}
 use Rattle.mp_ast.specs.Rules.{Input}

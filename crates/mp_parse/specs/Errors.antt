@@ -1,8 +1,9 @@
 -- The errors of lists of tokens that are no program.
-use Rattle.std.specs.Prelude.{ℕ, zero, suc, ◌+◌, ◌-◌, ◌≤◌, ◌<◌, List, length, take, Option, Some, None, Ok, Err}
+use Rattle.std.specs.Prelude.{◌≡◌, ℕ, zero, suc, ◌+◌, ◌-◌, ◌<◌, List, length, take, Option, Some, None, Ok, Err}
 use Rattle.mp_ast.specs.declared.tokens.TokenKind.{TokenKind}
 use Rattle.mp_ast.specs.declared.blocks.Tree.{Tree}
-use Rattle.mp_ast.specs.Programs.{IsViable, standard, start_of}
+use Rattle.mp_ast.specs.Programs.{HasTree, standard, start_of}
+use Rattle.mp_ast.specs.FirstError.{HasTooManyDeclarations, IsTooDeep, IsFirstError}
 use Rattle.mp_cursor.specs.declared.failure.Failure.{Failure}
 use Rattle.mp_cursor.specs.declared.failure.Failure.TheVariants as failure
 use Rattle.mp_cursor.specs.Parsers.{Outcome}
@@ -18,17 +19,32 @@ error_of (failure.Wrong (suc left)) count = error.Syntax (count - suc left) 201
 error_of (failure.TooDeep left) count = error.Syntax (count - left) 203
 error_of (failure.TooMany left) count = error.Syntax (count - left) 204
 
--- A program begins with the tokens before the one with this index, and none with this one as well. The number of tokens
--- stands for the end, where there is no token more.
-pub record IsFirstWrong (kinds : List TokenKind) (index : ℕ) : Type 0 where
-  pub within : index ≤ length kinds
-  pub before : IsViable standard (take index kinds)
-  pub at : index < length kinds → IsViable standard (take (index + 1) kinds) → ⊥
+-- an error names the first error of the tokens, with its code
+abbrev pub NamesFirstError : List TokenKind → ParseError → Type 0
+NamesFirstError kinds error.Memory = Unit {0}
+NamesFirstError kinds (error.Syntax token code) = IsFirstError standard kinds token code
 
--- an error names the first token with which no program begins
-abbrev pub NamesFirstWrong : List TokenKind → ParseError → Type 0
-NamesFirstWrong kinds error.Memory = Unit {0}
-NamesFirstWrong kinds (error.Syntax token code) = IsFirstWrong kinds token
+-- ---- the causes of the codes, each without those of the codes above it
+
+abbrev pub EndsEarly : List TokenKind → ℕ → Type 0
+EndsEarly kinds index = index ≡ length kinds
+
+abbrev pub FollowsTheProgram : List TokenKind → ℕ → Type 0
+FollowsTheProgram kinds index = (index < length kinds) × HasTree standard (take index kinds)
+
+abbrev pub IsOneBlockTooMany : List TokenKind → ℕ → Type 0
+IsOneBlockTooMany kinds index = (index < length kinds) × (HasTree standard (take index kinds) → ⊥) × HasTooManyDeclarations standard (take (index + 1) kinds)
+
+abbrev pub IsNestedTooDeep : List TokenKind → ℕ → Type 0
+IsNestedTooDeep kinds index = (index < length kinds) × (HasTree standard (take index kinds) → ⊥) × (HasTooManyDeclarations standard (take (index + 1) kinds) → ⊥) × IsTooDeep standard (take (index + 1) kinds)
+
+abbrev pub IsWrong : List TokenKind → ℕ → Type 0
+IsWrong kinds index = (index < length kinds) × (HasTree standard (take index kinds) → ⊥) × (IsTooDeep standard (take (index + 1) kinds) → ⊥)
+
+-- an error has this code exactly where its token has this cause
+abbrev pub HasCodeWhere : ℕ → (ℕ → Type 0) → ParseError → Type 0
+HasCodeWhere code Cause error.Memory = Unit {0}
+HasCodeWhere code Cause (error.Syntax token told) = (told ≡ code → Cause token) × (Cause token → told ≡ code)
 
 -- ---- the first error, as the parser finds it
 
@@ -55,3 +71,8 @@ first_error_of (Err failure) count = told (error_of failure count)
 -- the first error of a list of tokens, as the parser finds it; None where the list is a program
 unfoldable pub first_error : List TokenKind → Option SyntaxError
 first_error kinds = first_error_of (program standard (start_of kinds)) (length kinds)
+
+-- it is the first error of the list, and the list has a tree where there is none
+abbrev pub IsFound : List TokenKind → Option SyntaxError → Type 0
+IsFound kinds None = HasTree standard kinds
+IsFound kinds (Some error) = IsFirstError standard kinds error.token error.code

@@ -1,8 +1,10 @@
-ghost use Rattle.std.specs.Prelude.{ℕ, List};
+ghost use Rattle.std.specs.Prelude.{◌≡◌, ℕ, List};
 ghost use Rattle.mp_ast.specs.declared.tokens.TokenKind.{TokenKind};
 ghost use Rattle.mp_ast.specs.BlockGrammar.{Limits};
-ghost use Rattle.mp_ast.specs.Programs.{HaveOneTree};
+ghost use Rattle.mp_ast.specs.FirstError.{IsFirstError};
+ghost use Rattle.mp_ast.specs.Programs.{HasTree, HaveOneTree};
 ghost use Rattle.mp_parse.specs.Blocks.{nested_block};
+ghost use Rattle.mp_parse.specs.Errors.{IsFound, first_error};
 ghost use Rattle.mp_parse.specs.Locality.{IsLocal};
 
 /// A list of tokens has at most one tree, whatever the limits are.
@@ -15,4 +17,19 @@ pub fn one_tree()
 /// many declarations were made before it, where there is room for those in it.
 pub fn blocks_do_not_look_around()
     ensures { (limits : Limits) (depth : ℕ) → IsLocal limits.declarations (nested_block limits depth) }
+{}
+
+/// A list of tokens has at most one first error, whatever the limits are: one index and one code.
+pub fn one_first_error()
+    ensures { (limits : Limits) (kinds : List TokenKind) (i j c d : ℕ) → IsFirstError limits kinds i c → IsFirstError limits kinds j d → (i ≡ j) × (c ≡ d) }
+{}
+
+/// A list of tokens that has a tree has no first error.
+pub fn programs_have_no_error()
+    ensures { (limits : Limits) (kinds : List TokenKind) (index code : ℕ) → HasTree limits kinds → IsFirstError limits kinds index code → ⊥ }
+{}
+
+/// Each list of tokens has a tree or a first error by the limits of the language, and the parser finds which.
+pub fn first_errors_are_found()
+    ensures { (kinds : List TokenKind) → IsFound kinds (first_error kinds) }
 {}

@@ -1,10 +1,11 @@
 //! The parser: the tree of exactly the programs.
 //!
 //! The crate reads blocks and programs (ISO 7185, 6.2 and 6.10) from the tokens of a text. It promises that `parse`
-//! answers a tree exactly where the tokens have one by the grammar of `mp_ast`, and that one; that its error names a
-//! token with which no program begins; and of the definitions, that no list of tokens has two trees, and that a nested
-//! block is read by its own tokens alone. It must never look at names but for `forward`, nor judge what a program
-//! means. It stands on `mp_parse_stmt`, `mp_parse_type` and the crates below them.
+//! answers a tree exactly where the tokens have one by the grammar of `mp_ast`, and that one; that its error names the
+//! first token with which no program begins, with the code of the cause; and of the definitions, that no list of tokens
+//! has two trees, or two first errors, or one of each; that each has one of them; and that a nested block is read by its
+//! own tokens alone. It must never look at names but for `forward`, nor judge what a program means. It stands on
+//! `mp_parse_stmt`, `mp_parse_type` and the crates below them.
 #![tactic(auto)]
 
 mod blocks;
@@ -14,5 +15,8 @@ mod parser;
 mod parts;
 
 pub use errors::ParseError;
-pub use laws::{blocks_do_not_look_around, one_tree};
+pub use laws::{
+    blocks_do_not_look_around, first_errors_are_found, one_first_error, one_tree,
+    programs_have_no_error,
+};
 pub use parser::parse;

@@ -2,7 +2,7 @@ ghost use Rattle.std.specs.Prelude.{◌≡◌, ◌≢◌, ◌≤◌, length, IfE
 ghost use Rattle.mp_ast.specs.declared.blocks.Tree.{Tree as SyntaxTree};
 ghost use Rattle.mp_ast.specs.Programs.{Derives, kinds_of, standard};
 ghost use Rattle.mp_parse.specs.Errors as spec;
-ghost use Rattle.mp_parse.specs.Errors.{NamesFirstWrong, first_error, told};
+ghost use Rattle.mp_parse.specs.Errors.{EndsEarly, FollowsTheProgram, HasCodeWhere, IsNestedTooDeep, IsOneBlockTooMany, IsWrong, NamesFirstError, first_error, told};
 ghost use Rattle.mp_parse.specs.declared.errors.ParseError.TheVariants as error;
 
 use crate::blocks::program;
@@ -33,11 +33,18 @@ fn error_of(failure: Failure, count: usize) -> ParseError
 /// The tree of the program that the tokens are (ISO 7185, 6.2 to 6.10), by their kinds alone.
 ///
 /// Where they are no program, the error names the first token with which no program begins, by its index; the number of
-/// tokens stands for the end. Its code is not promised yet.
+/// tokens stands for the end. Its code is 202 at the end, and 205 behind a whole program; 204 where a program without the
+/// limit on declarations begins with that token, and 203 where only one without the limits on openers and depth as well
+/// does; 201 otherwise.
 pub fn parse(alloc: Global, lexed: &Lexed) -> Result<Tree, ParseError>
     requires { length lexed.now.tokens ≤ TEXT_LIMIT }
     ensures tree { IfOk result (λ t. Derives standard (kinds_of lexed.now.tokens) t) }
-    ensures error { IfErr result (λ e. NamesFirstWrong (kinds_of lexed.now.tokens) e) }
+    ensures error { IfErr result (λ e. NamesFirstError (kinds_of lexed.now.tokens) e) }
+    ensures ends_early { IfErr result (λ e. HasCodeWhere 202 (EndsEarly (kinds_of lexed.now.tokens)) e) }
+    ensures behind { IfErr result (λ e. HasCodeWhere 205 (FollowsTheProgram (kinds_of lexed.now.tokens)) e) }
+    ensures too_many { IfErr result (λ e. HasCodeWhere 204 (IsOneBlockTooMany (kinds_of lexed.now.tokens)) e) }
+    ensures too_deep { IfErr result (λ e. HasCodeWhere 203 (IsNestedTooDeep (kinds_of lexed.now.tokens)) e) }
+    ensures wrong { IfErr result (λ e. HasCodeWhere 201 (IsWrong (kinds_of lexed.now.tokens)) e) }
     ensures found { MatchResult result (λ t. first_error (kinds_of lexed.now.tokens) ≡ None) (λ e. e ≢ error.Memory → first_error (kinds_of lexed.now.tokens) ≡ told e) }
     ensures only { (t : SyntaxTree) → Derives standard (kinds_of lexed.now.tokens) t → MatchResult result (λ found. found ≡ t) (λ e. e ≡ error.Memory) }
 {

@@ -2,9 +2,11 @@ use Rattle.std.proofs.Common.{◌≡◌, ◌≢◌, Some, length, sym, ap, ◌�
 use Rattle.mp_ast.specs.Programs.{kinds_of, standard}
 use Rattle.mp_parse.specs.declared.errors.ParseError.TheVariants as error
 use Rattle.mp_cursor.specs.Parsers.{left}
-use Rattle.mp_parse.specs.Errors.{NamesFirstWrong, IsFirstWrong, error_of, first_error, told}
+use Rattle.mp_parse.specs.Errors.{NamesFirstError, error_of, first_error, told}
 use Rattle.mp_parse.proofs.ProgramLemmas.{only_memory, no_rest, same_tree, is_derived}
-use Rattle.mp_parse.proofs.ErrorLemmas.{error_clause, rest_is_first, same_count}
+use Rattle.mp_parse.proofs.ErrorLemmas.{same_count}
+use Rattle.mp_parse.proofs.FirstErrorLemmas.{names_error, rest_is_error, told_by, ends_early_where, follows_where, too_many_where, too_deep_where, wrong_where}
+use Rattle.mp_ast.specs.FirstError.{IsFirstError}
 use Rattle.mp_parse.proofs.FoundLemmas.{stop_found, rest_found, none_found}
 use Rattle.mp_parse.proofs.parser.parse.Goals as goal
 
@@ -14,9 +16,8 @@ returns-in-Err-clause-only c = λ t d. c.error_of.ensures ∙ ap (λ e. error_of
 pub returns-in-Err-clause-error : goal.returns-in-Err-clause-error
 returns-in-Err-clause-error c =
     let tokens = c.args.lexed.now.tokens in
-    let count = same_count tokens ∙ ap (λ t. length t) (sym c.get-tokens.ensures) in
-    let stop = error_clause (kinds_of tokens) c.in-Err.failure (λ n. rw (← c.get-tokens.ensures, ← c.new-cursor.ensures) (c.in-Err.ensures n)) in
-    subst (λ e. NamesFirstWrong (kinds_of tokens) e) (sym c.error_of.ensures) (subst (λ n. NamesFirstWrong (kinds_of tokens) (error_of c.in-Err.failure n)) count stop)
+    let stop = names_error (kinds_of tokens) c.in-Err.failure (λ n. rw (← c.get-tokens.ensures, ← c.new-cursor.ensures) (c.in-Err.ensures n)) in
+    told_by tokens c.get-tokens.result.now (NamesFirstError (kinds_of tokens)) c.in-Err.failure c.error_of.result c.get-tokens.ensures c.error_of.ensures stop
 
 pub returns-then-left-gt0-clause-only : goal.returns-then-left-gt0-clause-only
 unfolding left
@@ -30,8 +31,8 @@ returns-then-left-gt0-clause-error c =
     let l = c.left-left.ensures in
     let h = c.if-left-gt0.true in
     let s = c.saturating_sub-token.ensures in
-    subst (λ n. IsFirstWrong (kinds_of tokens) n) (omega arith)
-    (rest_is_first (kinds_of tokens) c.in-Ok.found c.program.new.tokens (rw (← c.get-tokens.ensures, ← c.new-cursor.ensures) c.in-Ok.ensures) (omega arith))
+    subst (λ n. IsFirstError standard (kinds_of tokens) n 205) (omega arith)
+    (rest_is_error (kinds_of tokens) c.in-Ok.found c.program.new.tokens (rw (← c.get-tokens.ensures, ← c.new-cursor.ensures) c.in-Ok.ensures) (omega arith))
 
 pub returns-clause-tree : goal.returns-clause-tree
 unfolding left
@@ -62,3 +63,88 @@ returns-then-left-gt0-clause-found c =
 pub returns-clause-found : goal.returns-clause-found
 unfolding left
 returns-clause-found c = none_found _ c.in-Ok.found c.program.new.tokens (rw (← c.get-tokens.ensures, ← c.new-cursor.ensures) c.in-Ok.ensures) (let l = c.left-left.ensures in let h = c.if-left-gt0.false in omega arith)
+
+pub returns-in-Err-clause-ends_early : goal.returns-in-Err-clause-ends_early
+returns-in-Err-clause-ends_early c =
+    let tokens = c.args.lexed.now.tokens in
+    let stop = names_error (kinds_of tokens) c.in-Err.failure (λ n. rw (← c.get-tokens.ensures, ← c.new-cursor.ensures) (c.in-Err.ensures n)) in
+    ends_early_where (kinds_of tokens) c.error_of.result (told_by tokens c.get-tokens.result.now (NamesFirstError (kinds_of tokens)) c.in-Err.failure c.error_of.result c.get-tokens.ensures c.error_of.ensures stop)
+
+pub returns-then-left-gt0-clause-ends_early : goal.returns-then-left-gt0-clause-ends_early
+unfolding left
+returns-then-left-gt0-clause-ends_early c =
+    let tokens = c.args.lexed.now.tokens in
+    let count = same_count tokens ∙ ap (λ t. length t) (sym c.get-tokens.ensures) in
+    let l = c.left-left.ensures in
+    let h = c.if-left-gt0.true in
+    let s = c.saturating_sub-token.ensures in
+    ends_early_where (kinds_of tokens) (error.Syntax c.saturating_sub-token.result 205) (subst (λ n. IsFirstError standard (kinds_of tokens) n 205) (omega arith)
+    (rest_is_error (kinds_of tokens) c.in-Ok.found c.program.new.tokens (rw (← c.get-tokens.ensures, ← c.new-cursor.ensures) c.in-Ok.ensures) (omega arith)))
+
+pub returns-in-Err-clause-behind : goal.returns-in-Err-clause-behind
+returns-in-Err-clause-behind c =
+    let tokens = c.args.lexed.now.tokens in
+    let stop = names_error (kinds_of tokens) c.in-Err.failure (λ n. rw (← c.get-tokens.ensures, ← c.new-cursor.ensures) (c.in-Err.ensures n)) in
+    follows_where (kinds_of tokens) c.error_of.result (told_by tokens c.get-tokens.result.now (NamesFirstError (kinds_of tokens)) c.in-Err.failure c.error_of.result c.get-tokens.ensures c.error_of.ensures stop)
+
+pub returns-then-left-gt0-clause-behind : goal.returns-then-left-gt0-clause-behind
+unfolding left
+returns-then-left-gt0-clause-behind c =
+    let tokens = c.args.lexed.now.tokens in
+    let count = same_count tokens ∙ ap (λ t. length t) (sym c.get-tokens.ensures) in
+    let l = c.left-left.ensures in
+    let h = c.if-left-gt0.true in
+    let s = c.saturating_sub-token.ensures in
+    follows_where (kinds_of tokens) (error.Syntax c.saturating_sub-token.result 205) (subst (λ n. IsFirstError standard (kinds_of tokens) n 205) (omega arith)
+    (rest_is_error (kinds_of tokens) c.in-Ok.found c.program.new.tokens (rw (← c.get-tokens.ensures, ← c.new-cursor.ensures) c.in-Ok.ensures) (omega arith)))
+
+pub returns-in-Err-clause-too_many : goal.returns-in-Err-clause-too_many
+returns-in-Err-clause-too_many c =
+    let tokens = c.args.lexed.now.tokens in
+    let stop = names_error (kinds_of tokens) c.in-Err.failure (λ n. rw (← c.get-tokens.ensures, ← c.new-cursor.ensures) (c.in-Err.ensures n)) in
+    too_many_where (kinds_of tokens) c.error_of.result (told_by tokens c.get-tokens.result.now (NamesFirstError (kinds_of tokens)) c.in-Err.failure c.error_of.result c.get-tokens.ensures c.error_of.ensures stop)
+
+pub returns-then-left-gt0-clause-too_many : goal.returns-then-left-gt0-clause-too_many
+unfolding left
+returns-then-left-gt0-clause-too_many c =
+    let tokens = c.args.lexed.now.tokens in
+    let count = same_count tokens ∙ ap (λ t. length t) (sym c.get-tokens.ensures) in
+    let l = c.left-left.ensures in
+    let h = c.if-left-gt0.true in
+    let s = c.saturating_sub-token.ensures in
+    too_many_where (kinds_of tokens) (error.Syntax c.saturating_sub-token.result 205) (subst (λ n. IsFirstError standard (kinds_of tokens) n 205) (omega arith)
+    (rest_is_error (kinds_of tokens) c.in-Ok.found c.program.new.tokens (rw (← c.get-tokens.ensures, ← c.new-cursor.ensures) c.in-Ok.ensures) (omega arith)))
+
+pub returns-in-Err-clause-too_deep : goal.returns-in-Err-clause-too_deep
+returns-in-Err-clause-too_deep c =
+    let tokens = c.args.lexed.now.tokens in
+    let stop = names_error (kinds_of tokens) c.in-Err.failure (λ n. rw (← c.get-tokens.ensures, ← c.new-cursor.ensures) (c.in-Err.ensures n)) in
+    too_deep_where (kinds_of tokens) c.error_of.result (told_by tokens c.get-tokens.result.now (NamesFirstError (kinds_of tokens)) c.in-Err.failure c.error_of.result c.get-tokens.ensures c.error_of.ensures stop)
+
+pub returns-then-left-gt0-clause-too_deep : goal.returns-then-left-gt0-clause-too_deep
+unfolding left
+returns-then-left-gt0-clause-too_deep c =
+    let tokens = c.args.lexed.now.tokens in
+    let count = same_count tokens ∙ ap (λ t. length t) (sym c.get-tokens.ensures) in
+    let l = c.left-left.ensures in
+    let h = c.if-left-gt0.true in
+    let s = c.saturating_sub-token.ensures in
+    too_deep_where (kinds_of tokens) (error.Syntax c.saturating_sub-token.result 205) (subst (λ n. IsFirstError standard (kinds_of tokens) n 205) (omega arith)
+    (rest_is_error (kinds_of tokens) c.in-Ok.found c.program.new.tokens (rw (← c.get-tokens.ensures, ← c.new-cursor.ensures) c.in-Ok.ensures) (omega arith)))
+
+pub returns-in-Err-clause-wrong : goal.returns-in-Err-clause-wrong
+returns-in-Err-clause-wrong c =
+    let tokens = c.args.lexed.now.tokens in
+    let stop = names_error (kinds_of tokens) c.in-Err.failure (λ n. rw (← c.get-tokens.ensures, ← c.new-cursor.ensures) (c.in-Err.ensures n)) in
+    wrong_where (kinds_of tokens) c.error_of.result (told_by tokens c.get-tokens.result.now (NamesFirstError (kinds_of tokens)) c.in-Err.failure c.error_of.result c.get-tokens.ensures c.error_of.ensures stop)
+
+pub returns-then-left-gt0-clause-wrong : goal.returns-then-left-gt0-clause-wrong
+unfolding left
+returns-then-left-gt0-clause-wrong c =
+    let tokens = c.args.lexed.now.tokens in
+    let count = same_count tokens ∙ ap (λ t. length t) (sym c.get-tokens.ensures) in
+    let l = c.left-left.ensures in
+    let h = c.if-left-gt0.true in
+    let s = c.saturating_sub-token.ensures in
+    wrong_where (kinds_of tokens) (error.Syntax c.saturating_sub-token.result 205) (subst (λ n. IsFirstError standard (kinds_of tokens) n 205) (omega arith)
+    (rest_is_error (kinds_of tokens) c.in-Ok.found c.program.new.tokens (rw (← c.get-tokens.ensures, ← c.new-cursor.ensures) c.in-Ok.ensures) (omega arith)))
