@@ -1,5 +1,5 @@
 -- The listing of a text, case by case.
-use Rattle.std.proofs.Common.{◌≡◌, ℕ, zero, suc, ◌<◌, ◌≤◌, true, false, List, [], ◌∷◌, length, get_or, ◌==◌, All, Option, refl, ap, sym, ◌∙◌, arith}
+use Rattle.std.proofs.Common.{◌≡◌, ℕ, zero, suc, ◌<◌, ◌≤◌, true, false, List, [], ◌∷◌, length, get_or, ◌==◌, All, refl, ap, sym, ◌∙◌, arith}
 use Rattle.std.proofs.lemmas.Bool.{eqb-true}
 use Rattle.mp_base.specs.Text.{bytes_of}
 use Rattle.mp_ast.specs.declared.errors.LexError.{LexError}
@@ -8,8 +8,9 @@ use Rattle.mp_lex.specs.Lexed.{lexical_tokens, lexical_errors}
 use Rattle.mp_diag.specs.Codes.{IsListed}
 use Rattle.mp_diag.specs.Listing.{listing, shown_errors}
 use Rattle.mp_diag.proofs.ListedLemmas.{lexical_listed, shown_listed}
-use Rattle.mp_session.specs.Departure.{departure, empty_program}
-use Rattle.mp_session.specs.Listing.{built_or_not, lexed_listing, text_listing}
+use Rattle.mp_ast.specs.Programs.{kinds_of}
+use Rattle.mp_parse.specs.Errors.{first_error}
+use Rattle.mp_session.specs.Listing.{lexed_listing, parsed_listing, text_listing}
 
 is_lexed : (text : List (List ℕ)) → text_listing text ≡ lexed_listing text (lexical_tokens (bytes_of text)) (lexical_errors (bytes_of text))
 unfolding text_listing
@@ -19,7 +20,7 @@ some_errors : (text : List (List ℕ)) (tokens : List Token) (errors : List LexE
 some_errors text tokens [] h = absurd (omega arith)
 some_errors text tokens (error ∷ errors) h = refl
 
-no_errors : (text : List (List ℕ)) (tokens : List Token) (errors : List LexError) → length errors ≡ 0 → lexed_listing text tokens errors ≡ built_or_not text (departure empty_program tokens (length (bytes_of text)))
+no_errors : (text : List (List ℕ)) (tokens : List Token) (errors : List LexError) → length errors ≡ 0 → lexed_listing text tokens errors ≡ parsed_listing text tokens (first_error (kinds_of tokens))
 no_errors text tokens [] h = refl
 no_errors text tokens (error ∷ errors) h = absurd (omega arith)
 
@@ -27,12 +28,11 @@ no_errors text tokens (error ∷ errors) h = absurd (omega arith)
 pub erroneous : (bytes : List ℕ) (text : List (List ℕ)) (errors : List LexError) → bytes ≡ bytes_of text → errors ≡ lexical_errors bytes → 0 < length errors → text_listing text ≡ listing (shown_errors text errors)
 erroneous bytes text errors b e h = is_lexed text ∙ ap (lexed_listing text (lexical_tokens (bytes_of text))) (sym (e ∙ ap lexical_errors b)) ∙ some_errors text (lexical_tokens (bytes_of text)) errors h
 
--- where the tokens depart from the empty program, or do not
-pub departed : (bytes : List ℕ) (text : List (List ℕ)) (tokens : List Token) (errors : List LexError) (from : Option ℕ) → bytes ≡ bytes_of text → tokens ≡ lexical_tokens bytes → errors ≡ lexical_errors bytes → length errors ≡ 0 → from ≡ departure empty_program tokens (length bytes) → text_listing text ≡ built_or_not text from
-departed bytes text tokens errors from b t e h d =
+-- the listing of a text without them
+pub parsed : (bytes : List ℕ) (text : List (List ℕ)) (tokens : List Token) (errors : List LexError) → bytes ≡ bytes_of text → tokens ≡ lexical_tokens bytes → errors ≡ lexical_errors bytes → length errors ≡ 0 → text_listing text ≡ parsed_listing text tokens (first_error (kinds_of tokens))
+parsed bytes text tokens errors b t e h =
     is_lexed text ∙ no_errors text (lexical_tokens (bytes_of text)) (lexical_errors (bytes_of text)) (ap length (sym (e ∙ ap lexical_errors b)) ∙ h)
-    ∙ ap (λ ts. built_or_not text (departure empty_program ts (length (bytes_of text)))) (sym (t ∙ ap lexical_tokens b))
-    ∙ ap (λ bs. built_or_not text (departure empty_program tokens (length bs))) (sym b) ∙ ap (built_or_not text) (sym d)
+    ∙ ap (λ ts. parsed_listing text ts (first_error (kinds_of ts))) (sym (t ∙ ap lexical_tokens b))
 
 all_listed : (errors : List LexError) → All (λ error. (101 ≤ error.code) × (error.code ≤ 108)) errors → All (λ error. IsListed error.code) errors
 all_listed errors h = λ k d lt. let p = h k d lt in lexical_listed (get_or errors k d).code p.0 p.1

@@ -42,7 +42,7 @@ pub(crate) const TEXTS: &[Long] = &[
     (b"?", &[(1, 4096)], b"\n", "? 4 line 1 too long\n"),
     (b"?", &[(1, 4096)], b"", "? 4 line 1 too long\n"),
     // a later line
-    (b"\n", &[(1, 4096)], b"\n", "not built at 3:1\n"),
+    (b"\n", &[(1, 4096)], b"\n", "3:1 202 text ends too early\n"),
     (b"\n", &[(1, 4097)], b"\n", "? 4 line 2 too long\n"),
     (
         b"program p; begin end.\n",

@@ -343,14 +343,14 @@ const VERSIONS: &[Row] = &[
     // `text` and `list` of an old version leave the current one as it is
     (
         b"insert 0 1\na\ntext 1\nlist 1\ntext\n",
-        "version 2\nversion 1, 0 lines\nnot built at 1:1\nversion 2, 1 lines\na\n",
+        "version 2\nversion 1, 0 lines\n1:1 202 text ends too early\nversion 2, 1 lines\na\n",
     ),
 ];
 
 /// `list` writes the listing of a version.
 const LISTINGS: &[Row] = &[
     // the empty text ends at 1:1
-    (b"list\n", "not built at 1:1\n"),
+    (b"list\n", "1:1 202 text ends too early\n"),
     // the empty program
     (
         b"insert 0 1\nprogram p; begin end.\nlist\n",
@@ -365,6 +365,16 @@ const LISTINGS: &[Row] = &[
     (
         b"insert 0 2\nprogram p;\nbegin x end.\nlist\n",
         "version 2\nnot built at 2:7\n",
+    ),
+    // a program whose last `.` is missing, wrong, put right, and followed by another token
+    (
+        b"insert 0 2\nprogram p;\nbegin end\nlist\nsub 2 10 0\n;\nlist\nsub 2 10 1\n.\nlist\ninsert 2 1\nend\nlist\nlist 2\n",
+        "version 2\n3:1 202 text ends too early\nversion 3\n2:10 201 syntax error\nversion 4\naccepted\nversion 5\n3:1 205 text after the program\n3:1 202 text ends too early\n",
+    ),
+    // a token that is no statement, and behind it a lexical error, which is told alone
+    (
+        b"insert 0 1\nprogram p; begin of end.\nlist\nsub 1 24 1\n?\nlist\n",
+        "version 2\n1:18 201 syntax error\nversion 3\n1:24 101 bad character\n",
     ),
     // a lexical error, and its repair
     (

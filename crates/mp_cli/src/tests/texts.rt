@@ -5,43 +5,50 @@
 
 use crate::tests::Row;
 
-/// Programs of this stage, and the first token that departs from `program`, an identifier, `;`, `begin`, `end`, `.`.
+/// Programs of this stage; programs that are no such, and the first token that departs from `program`, an identifier,
+/// `;`, `begin`, `end`, `.`; and the first token with which no program begins.
 const PROGRAMS: &[Row] = &[
     // the six tokens
     (b"program p; begin end.", "accepted\n"),
     // no token at all: the end of a text of no lines is 1:1
-    (b"", "not built at 1:1\n"),
+    (b"", "1:1 202 text ends too early\n"),
     // one line of no bytes: its end is on line 2
-    (b"\n", "not built at 2:1\n"),
+    (b"\n", "2:1 202 text ends too early\n"),
     // three lines of no bytes
-    (b"\n\n\n", "not built at 4:1\n"),
+    (b"\n\n\n", "4:1 202 text ends too early\n"),
     // spaces alone, a last line without its end
-    (b"  ", "not built at 2:1\n"),
+    (b"  ", "2:1 202 text ends too early\n"),
     // a statement is no `end`
     (b"program p; begin ; end.", "not built at 1:18\n"),
     // the end, where each of the six is wanted: a last line counts as ended
-    (b"program", "not built at 2:1\n"),
-    (b"program p", "not built at 2:1\n"),
-    (b"program p;", "not built at 2:1\n"),
-    (b"program p; begin", "not built at 2:1\n"),
-    (b"program p; begin end", "not built at 2:1\n"),
+    (b"program", "2:1 202 text ends too early\n"),
+    (b"program p", "2:1 202 text ends too early\n"),
+    (b"program p;", "2:1 202 text ends too early\n"),
+    (b"program p; begin", "2:1 202 text ends too early\n"),
+    (b"program p; begin end", "2:1 202 text ends too early\n"),
     // a line end after the last line adds no line, a second one does
-    (b"program p\n", "not built at 2:1\n"),
-    (b"program p\n\n", "not built at 3:1\n"),
+    (b"program p\n", "2:1 202 text ends too early\n"),
+    (b"program p\n\n", "3:1 202 text ends too early\n"),
     // the end of a text of two lines
-    (b"program p;\nbegin end", "not built at 3:1\n"),
-    // another token, where each of the six is wanted
-    (b"begin", "not built at 1:1\n"),
-    (b"program; begin end.", "not built at 1:8\n"),
-    (b"program p begin end.", "not built at 1:11\n"),
-    (b"program p; end.", "not built at 1:12\n"),
-    (b"program p; begin begin end.", "not built at 1:18\n"),
-    (b"program p; begin end;", "not built at 1:21\n"),
+    (b"program p;\nbegin end", "3:1 202 text ends too early\n"),
+    // another token, where each of the six is wanted; behind `begin` an `end` is not the only one that may stand
+    (b"begin", "1:1 201 syntax error\n"),
+    (b"program; begin end.", "1:8 201 syntax error\n"),
+    (b"program p begin end.", "1:11 201 syntax error\n"),
+    (b"program p; end.", "1:12 201 syntax error\n"),
+    (b"program p; begin begin end.", "1:27 201 syntax error\n"),
+    (b"program p; begin end;", "1:21 201 syntax error\n"),
     // a token too many after the last `.`
-    (b"program p; begin end. .", "not built at 1:23\n"),
-    (b"program p; begin end.p", "not built at 1:22\n"),
+    (
+        b"program p; begin end. .",
+        "1:23 205 text after the program\n",
+    ),
+    (
+        b"program p; begin end.p",
+        "1:22 205 text after the program\n",
+    ),
     // a text that begins with blanks, and one that begins with an identifier
-    (b"  p", "not built at 1:3\n"),
+    (b"  p", "1:3 201 syntax error\n"),
     // program parameters are not built yet
     (b"program p(output); begin end.", "not built at 1:10\n"),
     // a directive and a required identifier are identifiers
@@ -52,41 +59,41 @@ const PROGRAMS: &[Row] = &[
 /// Words: a letter, then letters and digits, the longest; 35 of them are word-symbols.
 const WORDS: &[Row] = &[
     // each of the 35 word-symbols is no identifier
-    (b"program and; begin end.", "not built at 1:9\n"),
-    (b"program array; begin end.", "not built at 1:9\n"),
-    (b"program begin; begin end.", "not built at 1:9\n"),
-    (b"program case; begin end.", "not built at 1:9\n"),
-    (b"program const; begin end.", "not built at 1:9\n"),
-    (b"program div; begin end.", "not built at 1:9\n"),
-    (b"program do; begin end.", "not built at 1:9\n"),
-    (b"program downto; begin end.", "not built at 1:9\n"),
-    (b"program else; begin end.", "not built at 1:9\n"),
-    (b"program end; begin end.", "not built at 1:9\n"),
-    (b"program file; begin end.", "not built at 1:9\n"),
-    (b"program for; begin end.", "not built at 1:9\n"),
-    (b"program function; begin end.", "not built at 1:9\n"),
-    (b"program goto; begin end.", "not built at 1:9\n"),
-    (b"program if; begin end.", "not built at 1:9\n"),
-    (b"program in; begin end.", "not built at 1:9\n"),
-    (b"program label; begin end.", "not built at 1:9\n"),
-    (b"program mod; begin end.", "not built at 1:9\n"),
-    (b"program nil; begin end.", "not built at 1:9\n"),
-    (b"program not; begin end.", "not built at 1:9\n"),
-    (b"program of; begin end.", "not built at 1:9\n"),
-    (b"program or; begin end.", "not built at 1:9\n"),
-    (b"program packed; begin end.", "not built at 1:9\n"),
-    (b"program procedure; begin end.", "not built at 1:9\n"),
-    (b"program program; begin end.", "not built at 1:9\n"),
-    (b"program record; begin end.", "not built at 1:9\n"),
-    (b"program repeat; begin end.", "not built at 1:9\n"),
-    (b"program set; begin end.", "not built at 1:9\n"),
-    (b"program then; begin end.", "not built at 1:9\n"),
-    (b"program to; begin end.", "not built at 1:9\n"),
-    (b"program type; begin end.", "not built at 1:9\n"),
-    (b"program until; begin end.", "not built at 1:9\n"),
-    (b"program var; begin end.", "not built at 1:9\n"),
-    (b"program while; begin end.", "not built at 1:9\n"),
-    (b"program with; begin end.", "not built at 1:9\n"),
+    (b"program and; begin end.", "1:9 201 syntax error\n"),
+    (b"program array; begin end.", "1:9 201 syntax error\n"),
+    (b"program begin; begin end.", "1:9 201 syntax error\n"),
+    (b"program case; begin end.", "1:9 201 syntax error\n"),
+    (b"program const; begin end.", "1:9 201 syntax error\n"),
+    (b"program div; begin end.", "1:9 201 syntax error\n"),
+    (b"program do; begin end.", "1:9 201 syntax error\n"),
+    (b"program downto; begin end.", "1:9 201 syntax error\n"),
+    (b"program else; begin end.", "1:9 201 syntax error\n"),
+    (b"program end; begin end.", "1:9 201 syntax error\n"),
+    (b"program file; begin end.", "1:9 201 syntax error\n"),
+    (b"program for; begin end.", "1:9 201 syntax error\n"),
+    (b"program function; begin end.", "1:9 201 syntax error\n"),
+    (b"program goto; begin end.", "1:9 201 syntax error\n"),
+    (b"program if; begin end.", "1:9 201 syntax error\n"),
+    (b"program in; begin end.", "1:9 201 syntax error\n"),
+    (b"program label; begin end.", "1:9 201 syntax error\n"),
+    (b"program mod; begin end.", "1:9 201 syntax error\n"),
+    (b"program nil; begin end.", "1:9 201 syntax error\n"),
+    (b"program not; begin end.", "1:9 201 syntax error\n"),
+    (b"program of; begin end.", "1:9 201 syntax error\n"),
+    (b"program or; begin end.", "1:9 201 syntax error\n"),
+    (b"program packed; begin end.", "1:9 201 syntax error\n"),
+    (b"program procedure; begin end.", "1:9 201 syntax error\n"),
+    (b"program program; begin end.", "1:9 201 syntax error\n"),
+    (b"program record; begin end.", "1:9 201 syntax error\n"),
+    (b"program repeat; begin end.", "1:9 201 syntax error\n"),
+    (b"program set; begin end.", "1:9 201 syntax error\n"),
+    (b"program then; begin end.", "1:9 201 syntax error\n"),
+    (b"program to; begin end.", "1:9 201 syntax error\n"),
+    (b"program type; begin end.", "1:9 201 syntax error\n"),
+    (b"program until; begin end.", "1:9 201 syntax error\n"),
+    (b"program var; begin end.", "1:9 201 syntax error\n"),
+    (b"program while; begin end.", "1:9 201 syntax error\n"),
+    (b"program with; begin end.", "1:9 201 syntax error\n"),
     // a word that begins as a word-symbol, or is the beginning of one, is an identifier
     (b"program ands; begin end.", "accepted\n"),
     (b"program an; begin end.", "accepted\n"),
@@ -98,15 +105,15 @@ const WORDS: &[Row] = &[
     // letter case does not matter, in word-symbols and in identifiers
     (b"PROGRAM P; BEGIN END.", "accepted\n"),
     (b"pRoGrAm Zz; bEgIn eNd.", "accepted\n"),
-    (b"program gOtO; begin end.", "not built at 1:9\n"),
+    (b"program gOtO; begin end.", "1:9 201 syntax error\n"),
     // the first and the last letter
     (b"program azAZ; begin end.", "accepted\n"),
     // an identifier goes on with letters and digits
     (b"program p0x9; begin end.", "accepted\n"),
-    // the longest word: `programp`, `beginend` and `end1` are identifiers
-    (b"programp; begin end.", "not built at 1:1\n"),
-    (b"program p; beginend.", "not built at 1:12\n"),
-    (b"program p; begin end1.", "not built at 1:18\n"),
+    // the longest word: `programp`, `beginend` and `end1` are identifiers; of `end1.` a field may follow
+    (b"programp; begin end.", "1:1 201 syntax error\n"),
+    (b"program p; beginend.", "1:12 201 syntax error\n"),
+    (b"program p; begin end1.", "2:1 202 text ends too early\n"),
     // no separator is needed beside a symbol
     (b"program p;begin end.", "accepted\n"),
     // a word of many letters
@@ -119,60 +126,63 @@ const WORDS: &[Row] = &[
 /// Symbols: each is a token, also in its other spelling, and the longest that stands there.
 const SYMBOLS: &[Row] = &[
     // each symbol is a token that no identifier is
-    (b"program +", "not built at 1:9\n"),
-    (b"program -", "not built at 1:9\n"),
-    (b"program *", "not built at 1:9\n"),
-    (b"program =", "not built at 1:9\n"),
-    (b"program <", "not built at 1:9\n"),
-    (b"program >", "not built at 1:9\n"),
-    (b"program [", "not built at 1:9\n"),
-    (b"program ]", "not built at 1:9\n"),
-    (b"program .", "not built at 1:9\n"),
-    (b"program ,", "not built at 1:9\n"),
-    (b"program :", "not built at 1:9\n"),
-    (b"program ;", "not built at 1:9\n"),
-    (b"program ^", "not built at 1:9\n"),
-    (b"program (", "not built at 1:9\n"),
-    (b"program )", "not built at 1:9\n"),
-    (b"program <>", "not built at 1:9\n"),
-    (b"program <=", "not built at 1:9\n"),
-    (b"program >=", "not built at 1:9\n"),
-    (b"program :=", "not built at 1:9\n"),
-    (b"program ..", "not built at 1:9\n"),
+    (b"program +", "1:9 201 syntax error\n"),
+    (b"program -", "1:9 201 syntax error\n"),
+    (b"program *", "1:9 201 syntax error\n"),
+    (b"program =", "1:9 201 syntax error\n"),
+    (b"program <", "1:9 201 syntax error\n"),
+    (b"program >", "1:9 201 syntax error\n"),
+    (b"program [", "1:9 201 syntax error\n"),
+    (b"program ]", "1:9 201 syntax error\n"),
+    (b"program .", "1:9 201 syntax error\n"),
+    (b"program ,", "1:9 201 syntax error\n"),
+    (b"program :", "1:9 201 syntax error\n"),
+    (b"program ;", "1:9 201 syntax error\n"),
+    (b"program ^", "1:9 201 syntax error\n"),
+    (b"program (", "1:9 201 syntax error\n"),
+    (b"program )", "1:9 201 syntax error\n"),
+    (b"program <>", "1:9 201 syntax error\n"),
+    (b"program <=", "1:9 201 syntax error\n"),
+    (b"program >=", "1:9 201 syntax error\n"),
+    (b"program :=", "1:9 201 syntax error\n"),
+    (b"program ..", "1:9 201 syntax error\n"),
     // the other spellings, of `^`, `[` and `]`
-    (b"program @", "not built at 1:9\n"),
-    (b"program (.", "not built at 1:9\n"),
-    (b"program .)", "not built at 1:9\n"),
+    (b"program @", "1:9 201 syntax error\n"),
+    (b"program (.", "1:9 201 syntax error\n"),
+    (b"program .)", "1:9 201 syntax error\n"),
     // `..` and `.)` are one symbol each, and no `.` with a token behind it
-    (b"program p; begin end..", "not built at 1:21\n"),
-    (b"program p; begin end.)", "not built at 1:21\n"),
+    (b"program p; begin end..", "1:21 201 syntax error\n"),
+    (b"program p; begin end.)", "1:21 201 syntax error\n"),
     // `...` is `..` and `.`
-    (b"program p; begin end...", "not built at 1:21\n"),
+    (b"program p; begin end...", "1:21 201 syntax error\n"),
     // a `.` and the `*` after it are two symbols
-    (b"program p; begin end.*", "not built at 1:22\n"),
+    (
+        b"program p; begin end.*",
+        "1:22 205 text after the program\n",
+    ),
     // `(..` is `(.` and `.`, and so no lexical error stands in it
-    (b"program p(..5", "not built at 1:10\n"),
+    (b"program p(..5", "1:10 201 syntax error\n"),
     // `(.*)` is `(.`, `*` and `)`: no comment opens
-    (b"program (.*)", "not built at 1:9\n"),
+    (b"program (.*)", "1:9 201 syntax error\n"),
     // a space parts `(` from `*`: no comment opens
-    (b"program ( * )", "not built at 1:9\n"),
+    (b"program ( * )", "1:9 201 syntax error\n"),
     // `*)` outside of a comment is `*` and `)`
-    (b"program *)", "not built at 1:9\n"),
+    (b"program *)", "1:9 201 syntax error\n"),
     // no lexical error stands between symbols that touch
-    (b"program <<=>>==:=:<>", "not built at 1:9\n"),
+    (b"program <<=>>==:=:<>", "1:9 201 syntax error\n"),
 ];
 
 /// Numbers: digits; with a fraction or an exponent error 106, with a letter after them 105, past maxint 107.
 const NUMBERS: &[Row] = &[
     // digits are a number
-    (b"0", "not built at 1:1\n"),
-    (b"program 7", "not built at 1:9\n"),
+    (b"0", "1:1 201 syntax error\n"),
+    (b"program 7", "1:9 201 syntax error\n"),
     // leading zeros do not count
-    (b"007", "not built at 1:1\n"),
-    (b"000000000002147483647", "not built at 1:1\n"),
+    (b"007", "1:1 201 syntax error\n"),
+    (b"000000000002147483647", "1:1 201 syntax error\n"),
     (b"000000000002147483648", "1:1 107 number too large\n"),
     // maxint, and the first number past it
-    (b"2147483647", "not built at 1:1\n"),
+    (b"2147483647", "1:1 201 syntax error\n"),
     (b"2147483648", "1:1 107 number too large\n"),
     // numbers whose value is small when bits above 32, 64 or 128 are lost
     (b"4294967296", "1:1 107 number too large\n"),
@@ -184,23 +194,23 @@ const NUMBERS: &[Row] = &[
     // a sign is no part of a number
     (b"-2147483648", "1:2 107 number too large\n"),
     // a number ends before `..`
-    (b"1..2", "not built at 1:1\n"),
-    (b"1..", "not built at 1:1\n"),
+    (b"1..2", "1:1 201 syntax error\n"),
+    (b"1..", "1:1 201 syntax error\n"),
     (b"2147483648..9", "1:1 107 number too large\n"),
     // what follows `..` is a number of its own
     (b"1..2.5", "1:4 106 real number\n"),
     // `1...2` is `1`, `..`, `.`, `2`
-    (b"1...2", "not built at 1:1\n"),
+    (b"1...2", "1:1 201 syntax error\n"),
     // a `.` with no digit after it is no fraction
-    (b"1.", "not built at 1:1\n"),
-    (b"1.x", "not built at 1:1\n"),
-    (b"1.e5", "not built at 1:1\n"),
-    (b"1. 5", "not built at 1:1\n"),
-    (b"1 .5", "not built at 1:1\n"),
-    (b".5", "not built at 1:1\n"),
+    (b"1.", "1:1 201 syntax error\n"),
+    (b"1.x", "1:1 201 syntax error\n"),
+    (b"1.e5", "1:1 201 syntax error\n"),
+    (b"1. 5", "1:1 201 syntax error\n"),
+    (b"1 .5", "1:1 201 syntax error\n"),
+    (b".5", "1:1 201 syntax error\n"),
     // `1.)` is `1` and `.)`
-    (b"1.)", "not built at 1:1\n"),
-    (b"a(.1.)", "not built at 1:1\n"),
+    (b"1.)", "1:1 201 syntax error\n"),
+    (b"a(.1.)", "1:1 201 syntax error\n"),
     (b"a(.1.5.)", "1:4 106 real number\n"),
     // a fraction
     (b"1.5", "1:1 106 real number\n"),
@@ -257,27 +267,27 @@ const NUMBERS: &[Row] = &[
     // a fraction after such an item is `.` and a number
     (b"1x.5", "1:1 105 letter touches number\n"),
     // a space, or any byte that is no letter, parts them
-    (b"1 x", "not built at 1:1\n"),
+    (b"1 x", "1:1 201 syntax error\n"),
     (b"1_x", "1:2 101 bad character\n"),
     // digits in a word are no number
-    (b"x1", "not built at 1:1\n"),
-    (b"e5", "not built at 1:1\n"),
+    (b"x1", "1:1 201 syntax error\n"),
+    (b"e5", "1:1 201 syntax error\n"),
 ];
 
 /// Strings: a quote, elements, a quote; an element is two quotes or another byte of the line.
 const STRINGS: &[Row] = &[
     // one element and two
-    (b"program 'a'", "not built at 1:9\n"),
-    (b"program 'ab'", "not built at 1:9\n"),
+    (b"program 'a'", "1:9 201 syntax error\n"),
+    (b"program 'ab'", "1:9 201 syntax error\n"),
     // two quotes are one element
-    (b"program ''''", "not built at 1:9\n"),
-    (b"program 'it''s'", "not built at 1:9\n"),
-    (b"program '''a'", "not built at 1:9\n"),
-    (b"program 'a'''", "not built at 1:9\n"),
+    (b"program ''''", "1:9 201 syntax error\n"),
+    (b"program 'it''s'", "1:9 201 syntax error\n"),
+    (b"program '''a'", "1:9 201 syntax error\n"),
+    (b"program 'a'''", "1:9 201 syntax error\n"),
     // any byte but a quote, a line end and a carriage return is an element
     (
         b"program '\x00\t\x0b\x0c ?/{}(*\x7f\x80\xff'",
-        "not built at 1:9\n",
+        "1:9 201 syntax error\n",
     ),
     // no element
     (b"''", "1:1 104 empty string\n"),
@@ -323,7 +333,7 @@ const STRINGS: &[Row] = &[
 const COMMENTS: &[Row] = &[
     // a comment is a separator
     (b"{ a }program{ b }p(* c *); begin end.", "accepted\n"),
-    (b"pro{}gram p; begin end.", "not built at 1:1\n"),
+    (b"pro{}gram p; begin end.", "1:1 201 syntax error\n"),
     (b"program p; begin end.{}", "accepted\n"),
     // in any pairing
     (b"{ a *)program p; begin end.", "accepted\n"),
@@ -348,7 +358,7 @@ const COMMENTS: &[Row] = &[
     (b"{ { } }", "1:7 101 bad character\n"),
     (b"(* { *) }", "1:9 101 bad character\n"),
     // the `*)` that is left over is `*` and `)`
-    (b"{ (* } *)", "not built at 1:8\n"),
+    (b"{ (* } *)", "1:8 201 syntax error\n"),
     // over lines
     (b"{ a\nb\r\n\nc }program p; begin end.", "accepted\n"),
     (b"{\n\n} ?", "3:3 101 bad character\n"),
@@ -406,7 +416,7 @@ const BAD_BYTES: &[Row] = &[
     (b"program a_b; begin end.", "1:10 101 bad character\n"),
     // bytes 9, 12, 13 and 32 are separators
     (b"program\tp\x0c;\rbegin end.", "accepted\n"),
-    (b"\t\x0c\r ", "not built at 2:1\n"),
+    (b"\t\x0c\r ", "2:1 202 text ends too early\n"),
     // `/` is real division wherever it stands, and an item by itself
     (b"/", "1:1 108 real division\n"),
     (b"a/b", "1:2 108 real division\n"),
@@ -415,7 +425,7 @@ const BAD_BYTES: &[Row] = &[
     (b"/=", "1:1 108 real division\n"),
     (b"(/*", "1:2 108 real division\n"),
     // but in a string or in a comment
-    (b"program '/'", "not built at 1:9\n"),
+    (b"program '/'", "1:9 201 syntax error\n"),
     (b"program{/}p; begin end.", "accepted\n"),
 ];
 
@@ -450,16 +460,20 @@ const PLACES: &[Row] = &[
         b"?\r?\n?",
         "1:1 101 bad character\n1:3 101 bad character\n2:1 101 bad character\n",
     ),
-    (b"program p;\rbegin ;", "not built at 1:18\n"),
+    (b"program p;\rbegin of", "1:18 201 syntax error\n"),
+    (b"program p;\rbegin ;", "2:1 202 text ends too early\n"),
     // lines that end in a carriage return and a line end
     (b"program p;\r\nbegin\r\nend.\r\n", "accepted\n"),
     (b"program p;\r\nbegin\r\n?\r\n", "3:1 101 bad character\n"),
-    (b"program p;\r\nbegin\r\n", "not built at 3:1\n"),
+    (b"program p;\r\nbegin\r\n", "3:1 202 text ends too early\n"),
     // each token on a line of its own
     (b"program\np\n;\nbegin\nend\n.\n", "accepted\n"),
     (b"program\np\n;\nbegin\n;\nend\n.\n", "not built at 5:1\n"),
-    (b"program p;\n\n  end.\n", "not built at 3:3\n"),
-    (b"program p;\nbegin end.\n\n .", "not built at 4:2\n"),
+    (b"program p;\n\n  end.\n", "3:3 201 syntax error\n"),
+    (
+        b"program p;\nbegin end.\n\n .",
+        "4:2 205 text after the program\n",
+    ),
 ];
 
 /// All tables.

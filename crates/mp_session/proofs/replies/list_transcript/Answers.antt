@@ -3,8 +3,11 @@ use Rattle.std.proofs.lemmas.Result.{IfOk-weaker}
 use Rattle.mp_base.specs.Text.{lines_of}
 use Rattle.mp_session.specs.Listing.{text_listing}
 use Rattle.mp_session.specs.Replies.{list_transcript, refusal_line}
-use Rattle.mp_session.proofs.ReplyLemmas.{listed_so}
+use Rattle.mp_session.proofs.ReplyLemmas.{kept_bytes, listed_so}
 use Rattle.mp_session.proofs.replies.list_transcript.Goals as goal
+
+pub text_listing-requires-clause-few : goal.text_listing-requires-clause-few
+text_listing-requires-clause-few c = kept_bytes (lines_of c.args.text.now) c.args.text.now c.requires.ended (sym c.limit_refusal.ensures ∙ c.in-None.is)
 
 pub returns-in-None : goal.returns-in-None
 returns-in-None c =
