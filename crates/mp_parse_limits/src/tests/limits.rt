@@ -22,8 +22,10 @@ pub(crate) const DEPTH: &[Row] = &[
     (&[(1, "program p; "), (100, "procedure q; begin end; "), (1, "begin end.")], Tree),
     // no block may stand there at any depth
     (&[(1, "program p; "), (15, "procedure q; "), (1, "begin procedure")], Refused(201, 49)),
-    // the text ends
+    // the text ends, also where one more block may stand, and the program ends
     (&[(1, "program p; "), (15, "procedure q; ")], Refused(202, 48)),
+    (&[(1, "program p; "), (14, "procedure q; "), (1, "procedure")], Refused(202, 46)),
+    (&[(1, "program p; "), (15, "procedure q; "), (1, "begin end"), (15, "; begin end"), (1, ". procedure")], Refused(205, 96)),
 ];
 
 /// Declarations. 3 tokens stand before the first.
@@ -46,6 +48,11 @@ pub(crate) const DECLARATIONS: &[Row] = &[
     // the 4,096th in a block of depth 15, and of depth 16
     (&[(1, "program p; "), (4081, "procedure q; forward; "), (15, "procedure q; ")], Refused(204, 20_450)),
     (&[(1, "program p; "), (4080, "procedure q; forward; "), (16, "procedure q; ")], Refused(203, 20_448)),
+    // the 4,095th in a block of depth 15
+    (&[(1, "program p; "), (4080, "procedure q; forward; "), (15, "procedure q; "), (1, "begin end"), (15, "; begin end"), (1, ".")], Tree),
+    // its first word is enough
+    (&[(1, "program p; "), (4094, "procedure q; forward; "), (1, "function")], Refused(202, 20_474)),
+    (&[(1, "program p; "), (4095, "procedure q; forward; "), (1, "function")], Refused(204, 20_478)),
     // no declaration may stand there, however few there are
     (&[(1, "program p; "), (4095, "procedure q; forward; "), (1, "begin procedure")], Refused(201, 20_479)),
     // the text ends, and the program ends
@@ -57,6 +64,8 @@ pub(crate) const DECLARATIONS: &[Row] = &[
 #[rattlefmt::skip]
 pub(crate) const OPEN: &[Row] = &[
     // 128 times `begin`, the last one with index 130
+    (&[(1, "program p; "), (128, "begin ")], Refused(202, 131)),
+    (&[(1, "program p; "), (129, "begin ")], Refused(203, 131)),
     (&[(1, "program p; "), (128, "begin "), (1, "if")], Refused(203, 131)),
     (&[(1, "program p; "), (128, "begin "), (1, "a (")], Refused(203, 132)),
     (&[(1, "program p; "), (128, "begin "), (1, "a [")], Refused(203, 132)),
@@ -77,6 +86,10 @@ pub(crate) const OPEN: &[Row] = &[
     (&[(1, "program p; "), (126, "begin "), (999, "if a then repeat b until c = (d); "), (126, " end"), (1, ".")], Refused(203, 137)),
     (&[(1, "program p; "), (127, "begin "), (999, "begin end; "), (127, " end"), (1, ".")], Tree),
     (&[(1, "program p; "), (127, "begin "), (1, "a := (b) + [] * f(c); d[e] := not g; "), (127, " end"), (1, ".")], Tree),
+    // each block has openers of its own
+    (&[(1, "program p; procedure q; "), (128, "begin "), (128, "end "), (1, "; "), (128, "begin "), (128, "end "), (1, ".")], Tree),
+    (&[(1, "program p; procedure q; "), (129, "begin ")], Refused(203, 134)),
+    (&[(1, "program p; procedure q; begin end; "), (129, "begin ")], Refused(203, 137)),
     // 128 times `file of`, the last `of` with index 261
     (&[(1, "program p; type t = "), (128, "file of "), (1, "array")], Refused(203, 262)),
     (&[(1, "program p; type t = "), (128, "file of "), (1, "record")], Refused(203, 262)),
@@ -125,7 +138,14 @@ pub(crate) const LONG: &[(usize, &[(usize, &str)], Answer)] = &[
     (240_040, &[(1, "program p;type t=array[a"), (120_000, ",a"), (1, "]of b;begin end.")], Tree),
     (240_030, &[(1, "program p;begin with a"), (120_000, ",a"), (1, " do end.")], Tree),
     (240_023, &[(1, "program p(a"), (120_000, ",a"), (1, ");begin end.")], Tree),
-    // some of these with an error at the last token, and at the end
+    // an error at the first token and at the last one, and at the end, also behind blanks and behind comments
+    (262_144, &[(131_072, ";;")], Refused(201, 0)),
+    (262_144, &[(1, "program p;begin "), (37_446, "x(y:1);"), (1, ";;end;")], Refused(201, 262_129)),
+    (262_144, &[(1, "program p;begin "), (37_446, "x(y:1);"), (1, ";end.x")], Refused(205, 262_129)),
+    (262_144, &[(1, "program p;begin "), (37_446, "x(y:1);"), (1, ";;end ")], Refused(202, 262_129)),
+    (262_144, &[(1, "program p;begin end"), (262_125, " ")], Refused(202, 5)),
+    (262_144, &[(1, "program p;begin end"), (87_375, "{.}")], Refused(202, 5)),
+    // some of the lists with an error before the last token, and at the end
     (260_024, &[(1, "program p;begin a:=b"), (129_999, "+b"), (1, "+ end.")], Refused(201, 260_006)),
     (120_020, &[(1, "program p;begin a:=b"), (60_000, ".c")], Refused(202, 120_007)),
 ];
