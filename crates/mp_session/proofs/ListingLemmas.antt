@@ -4,12 +4,12 @@ use Rattle.std.proofs.lemmas.Bool.{eqb-true}
 use Rattle.mp_base.specs.Text.{bytes_of}
 use Rattle.mp_ast.specs.declared.errors.LexError.{LexError}
 use Rattle.mp_ast.specs.declared.tokens.Token.{Token}
+use Rattle.mp_ast.specs.Programs.{kinds_of}
 use Rattle.mp_lex.specs.Lexed.{lexical_tokens, lexical_errors}
+use Rattle.mp_parse.specs.Errors.{first_error}
 use Rattle.mp_diag.specs.Codes.{IsListed}
 use Rattle.mp_diag.specs.Listing.{listing, shown_errors}
 use Rattle.mp_diag.proofs.ListedLemmas.{lexical_listed, shown_listed}
-use Rattle.mp_ast.specs.Programs.{kinds_of}
-use Rattle.mp_parse.specs.Errors.{first_error}
 use Rattle.mp_session.specs.Listing.{lexed_listing, parsed_listing, text_listing}
 
 is_lexed : (text : List (List ℕ)) → text_listing text ≡ lexed_listing text (lexical_tokens (bytes_of text)) (lexical_errors (bytes_of text))
