@@ -7,6 +7,7 @@ ghost use Rattle.mp_ast.specs.declared.symbols.Symbol.TheVariants as symbol;
 
 use crate::cursor::Cursor;
 use crate::failure::Failure;
+use crate::lists::single;
 use crate::next::Next;
 use mp_ast::{Constant, Identifier, Sign, SignKind, Symbol};
 use sqlite_items::Items;
@@ -104,8 +105,8 @@ fn further_identifiers(
 pub fn identifiers(alloc: Global, tokens: &mut Cursor<'_>) -> Result<Items<Identifier>, Failure>
     ensures { Reads (spec.identifiers tokens.old) result tokens.new }
 {
-    let mut found = Items::new(alloc);
-    found.push(tokens.identifier()?)?;
+    let first = tokens.identifier()?;
+    let found = single(alloc, first)?;
     further_identifiers(tokens, found)
 }
 
@@ -144,7 +145,7 @@ fn further_constants(
 pub fn constants(alloc: Global, tokens: &mut Cursor<'_>) -> Result<Items<Constant>, Failure>
     ensures { Reads (spec.constants tokens.old) result tokens.new }
 {
-    let mut found = Items::new(alloc);
-    found.push(constant(alloc, tokens)?)?;
+    let first = constant(alloc, tokens)?;
+    let found = single(alloc, first)?;
     further_constants(alloc, tokens, found)
 }

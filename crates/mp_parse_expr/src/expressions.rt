@@ -13,7 +13,7 @@ use crate::operators::{
 use mp_ast::{
     Access, Actual, Expr, Identifier, Member, Operation, Selector, Sign, Symbol, Width, WordSymbol,
 };
-use mp_cursor::{Cursor, Failure, Next, optional_sign};
+use mp_cursor::{Cursor, Failure, Next, added, optional_sign, single};
 use sqlite_items::{Boxed, Items};
 use std::alloc::Global;
 
@@ -68,8 +68,7 @@ fn index_list(
 {
     let at = tokens.open(Next::Symbol(Symbol::LeftBracket), room)?;
     let first = expression(alloc, tokens, room - 1)?;
-    let mut found = Items::new(alloc);
-    found.push(Selector::Index(at, first))?;
+    let found = single(alloc, Selector::Index(at, first))?;
     let found = further_indices(alloc, tokens, room, found)?;
     tokens.expect(Next::Symbol(Symbol::RightBracket))?;
     Ok(found)
@@ -81,9 +80,7 @@ fn field_selection(alloc: Global, tokens: &mut Cursor<'_>) -> Result<Items<Selec
 {
     let at = tokens.expect(Next::Symbol(Symbol::Dot))?;
     let name = tokens.identifier()?;
-    let mut found = Items::new(alloc);
-    found.push(Selector::Field(at, name))?;
-    Ok(found)
+    Ok(single(alloc, Selector::Field(at, name))?)
 }
 
 #[tactic(auto, unfolding(crate::specs::Expressions::pointer_selection))]
@@ -94,9 +91,7 @@ fn pointer_selection(
     ensures { Reads (spec.pointer_selection tokens.old) result tokens.new }
 {
     let at = tokens.expect(Next::Symbol(Symbol::Caret))?;
-    let mut found = Items::new(alloc);
-    found.push(Selector::Follow(at))?;
-    Ok(found)
+    Ok(single(alloc, Selector::Follow(at))?)
 }
 
 fn is_selecting(next: Next) -> bool
@@ -137,6 +132,9 @@ fn further_selection(
     ensures { Reads (spec.further_selection room (behind room) found tokens.old) result tokens.new }
 {
     let more = selection(alloc, tokens, room)?;
+    if found.is_empty() {
+        return Ok(more);
+    }
     found.append(more)?;
     Ok(found)
 }
@@ -265,8 +263,7 @@ pub fn actuals(
 {
     tokens.open(Next::Symbol(Symbol::LeftParen), room)?;
     let first = actual(alloc, tokens, room)?;
-    let mut found = Items::new(alloc);
-    found.push(first)?;
+    let found = single(alloc, first)?;
     let found = further_actuals(alloc, tokens, room, found)?;
     tokens.expect(Next::Symbol(Symbol::RightParen))?;
     Ok(found)
@@ -347,8 +344,7 @@ fn some_members(
     ensures { Reads (spec.some_members room (behind room) tokens.old) result tokens.new }
 {
     let first = member(alloc, tokens, room)?;
-    let mut found = Items::new(alloc);
-    found.push(first)?;
+    let found = single(alloc, first)?;
     further_members(alloc, tokens, room, found)
 }
 
@@ -437,18 +433,18 @@ fn further_factor(
     alloc: Global,
     tokens: &mut Cursor<'_>,
     room: usize,
-    mut found: Items<Operation<Expr>>,
+    found: Items<Operation<Expr>>,
 ) -> Result<Items<Operation<Expr>>, Failure>
     ensures { Reads (spec.further_factor room (behind room) found tokens.old) result tokens.new }
 {
     let (at, operator) = multiplying_operator(tokens)?;
     let operand = factor(alloc, tokens, room)?;
-    found.push(Operation {
+    let more = Operation {
         at,
         operator,
         operand,
-    })?;
-    Ok(found)
+    };
+    Ok(added(alloc, found, more)?)
 }
 
 #[cycle(expressions)]
@@ -497,18 +493,18 @@ fn further_term(
     alloc: Global,
     tokens: &mut Cursor<'_>,
     room: usize,
-    mut found: Items<Operation<Expr>>,
+    found: Items<Operation<Expr>>,
 ) -> Result<Items<Operation<Expr>>, Failure>
     ensures { Reads (spec.further_term room (behind room) found tokens.old) result tokens.new }
 {
     let (at, operator) = adding_operator(tokens)?;
     let operand = term(alloc, tokens, room)?;
-    found.push(Operation {
+    let more = Operation {
         at,
         operator,
         operand,
-    })?;
-    Ok(found)
+    };
+    Ok(added(alloc, found, more)?)
 }
 
 #[cycle(expressions)]

@@ -4,7 +4,7 @@ ghost use Rattle.mp_parse_expr.specs.Expressions as expressions;
 ghost use Rattle.mp_parse_stmt.specs.Statements as spec;
 
 use mp_ast::{Access, Direction, Expr, ForHead, Symbol, WordSymbol};
-use mp_cursor::{Cursor, Failure, Next};
+use mp_cursor::{Cursor, Failure, Next, single};
 use mp_parse_expr::{access, expression};
 use sqlite_items::Items;
 use std::alloc::Global;
@@ -91,7 +91,6 @@ pub(crate) fn records(
     ensures { Reads (spec.records (expressions.access room) tokens.old) result tokens.new }
 {
     let first = access(alloc, tokens, room)?;
-    let mut found = Items::new(alloc);
-    found.push(first)?;
+    let found = single(alloc, first)?;
     further_records(alloc, tokens, room, found)
 }

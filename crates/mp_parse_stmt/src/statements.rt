@@ -6,7 +6,7 @@ ghost use Rattle.mp_parse_stmt.specs.Statements.{behind};
 use crate::heads::{for_head, records};
 use crate::simple::{goto_statement, named};
 use mp_ast::{Arm, Statement, Symbol, WordSymbol};
-use mp_cursor::{Cursor, Failure, Next, constants};
+use mp_cursor::{Cursor, Failure, Next, constants, single};
 use mp_parse_expr::expression;
 use sqlite_items::{Boxed, Items};
 use std::alloc::Global;
@@ -63,8 +63,7 @@ pub fn sequence(
     ensures { Reads (spec.sequence (spec.statement room) tokens.old) result tokens.new }
 {
     let first = statement(alloc, tokens, room)?;
-    let mut found = Items::new(alloc);
-    found.push(first)?;
+    let found = single(alloc, first)?;
     further_statements(alloc, tokens, room, found)
 }
 
@@ -157,8 +156,7 @@ fn arms(
     ensures { Reads (spec.arms (spec.statement room) tokens.old) result tokens.new }
 {
     let first = arm(alloc, tokens, room)?;
-    let mut found = Items::new(alloc);
-    found.push(first)?;
+    let found = single(alloc, first)?;
     further_arms(alloc, tokens, room, found)
 }
 

@@ -3,7 +3,7 @@ ghost use Rattle.mp_cursor.specs.Parsers.{Reads};
 ghost use Rattle.mp_parse_type.specs.Headings as spec;
 
 use mp_ast::{FormalSection, HeadingKind, HeadingTree, Identifier, Symbol, WordSymbol};
-use mp_cursor::{Cursor, Failure, Next, identifiers};
+use mp_cursor::{Cursor, Failure, Next, identifiers, single};
 use sqlite_items::Items;
 use std::alloc::Global;
 
@@ -144,8 +144,7 @@ fn formal_sections(
     ensures { Reads (spec.formal_sections (spec.formals room) tokens.old) result tokens.new }
 {
     let first = formal(alloc, tokens, room)?;
-    let mut found = Items::new(alloc);
-    found.push(first)?;
+    let found = single(alloc, first)?;
     further_formals(alloc, tokens, room, found)
 }
 

@@ -6,7 +6,7 @@ ghost use Rattle.mp_parse_type.specs.Types.{behind, HasOpened};
 use mp_ast::{
     Constant, Denoter, Identifier, Index, Section, Symbol, Variant, VariantPart, WordSymbol,
 };
-use mp_cursor::{Cursor, Failure, Next, constant, constants, identifiers};
+use mp_cursor::{Cursor, Failure, Next, constant, constants, identifiers, single};
 use sqlite_items::{Boxed, Items};
 use std::alloc::Global;
 
@@ -140,8 +140,7 @@ fn index_types(
     ensures { Reads (spec.index_types at tokens.old) result tokens.new }
 {
     let of = simple_type(alloc, tokens)?;
-    let mut found = Items::new(alloc);
-    found.push(Index { at, of })?;
+    let found = single(alloc, Index { at, of })?;
     further_indices(alloc, tokens, found)
 }
 
@@ -363,8 +362,7 @@ fn variants(
     ensures { Reads (spec.variants (spec.field_list room) tokens.old) result tokens.new }
 {
     let first = variant(alloc, tokens, room)?;
-    let mut found = Items::new(alloc);
-    found.push(first)?;
+    let found = single(alloc, first)?;
     further_variants(alloc, tokens, room, found)
 }
 
@@ -469,8 +467,7 @@ fn fixed_fields(alloc: Global, tokens: &mut Cursor<'_>, room: usize) -> Result<D
     ensures { Reads (spec.fixed_fields room (behind room) tokens.old) result tokens.new }
 {
     let first = section(alloc, tokens, room)?;
-    let mut found = Items::new(alloc);
-    found.push(first)?;
+    let found = single(alloc, first)?;
     further_fields(alloc, tokens, room, found)
 }
 
