@@ -9,7 +9,7 @@ use mp_ast::{
     WordSymbol,
 };
 use mp_base::{DEPTH_LIMIT, OPENER_LIMIT, TEXT_LIMIT};
-use mp_cursor::{Cursor, Failure, Next, identifiers};
+use mp_cursor::{Cursor, Failure, Next, identifiers, single};
 use mp_parse_type::heading;
 use sqlite_items::Items;
 use std::alloc::Global;
@@ -43,8 +43,7 @@ fn block_body(alloc: Global, tokens: &mut Cursor<'_>, depth: usize) -> Result<Bo
     ensures { Reads (spec.block_body (spec.nested_block standard depth) tokens.old) result tokens.new }
 {
     let tree = nested_block(alloc, tokens, depth)?;
-    let mut block = Items::new(alloc);
-    block.push(tree)?;
+    let block = single(alloc, tree)?;
     Ok((DeclaredBody::Block, block))
 }
 

@@ -34,8 +34,8 @@ fn error_of(failure: Failure, count: usize) -> ParseError
 ///
 /// Where they are no program, the error names the first token with which no program begins, by its index; the number of
 /// tokens stands for the end. Its code is 202 at the end, and 205 behind a whole program; 204 where a program without the
-/// limit on declarations begins with that token, and 203 where only one without the limits on openers and depth as well
-/// does; 201 otherwise.
+/// limit on declarations begins with the tokens up to that one, and 203 where only one without the limits on openers and
+/// depth as well does; 201 otherwise.
 pub fn parse(alloc: Global, lexed: &Lexed) -> Result<Tree, ParseError>
     requires { length lexed.now.tokens ≤ TEXT_LIMIT }
     ensures tree { IfOk result (λ t. Derives standard (kinds_of lexed.now.tokens) t) }

@@ -6,7 +6,7 @@ use mp_ast::{
     ConstantDefinition, Denoter, Number, Section, StatementPart, Symbol, TypeDefinition, WordSymbol,
 };
 use mp_base::OPENER_LIMIT;
-use mp_cursor::{Cursor, Failure, Next, constant};
+use mp_cursor::{Cursor, Failure, Next, constant, single};
 use mp_parse_stmt::sequence;
 use mp_parse_type::{denoter, section};
 use sqlite_items::Items;
@@ -46,8 +46,7 @@ fn some_labels(alloc: Global, tokens: &mut Cursor<'_>) -> Result<Items<Number>, 
     ensures { Reads (spec.some_labels tokens.old) result tokens.new }
 {
     let first = tokens.number()?;
-    let mut found = Items::new(alloc);
-    found.push(first)?;
+    let found = single(alloc, first)?;
     further_labels(tokens, found)
 }
 
@@ -131,8 +130,7 @@ fn some_constants(
     ensures { Reads (spec.some_constants tokens.old) result tokens.new }
 {
     let first = constant_definition(alloc, tokens)?;
-    let mut found = Items::new(alloc);
-    found.push(first)?;
+    let found = single(alloc, first)?;
     further_constants(alloc, tokens, found)
 }
 
@@ -204,8 +202,7 @@ fn some_types(alloc: Global, tokens: &mut Cursor<'_>) -> Result<Items<TypeDefini
     ensures { Reads (spec.some_types OPENER_LIMIT tokens.old) result tokens.new }
 {
     let first = type_definition(alloc, tokens)?;
-    let mut found = Items::new(alloc);
-    found.push(first)?;
+    let found = single(alloc, first)?;
     further_types(alloc, tokens, found)
 }
 
@@ -268,8 +265,7 @@ fn some_sections(alloc: Global, tokens: &mut Cursor<'_>) -> Result<Items<Section
     ensures { Reads (spec.some_sections OPENER_LIMIT tokens.old) result tokens.new }
 {
     let first = variable_section(alloc, tokens)?;
-    let mut found = Items::new(alloc);
-    found.push(first)?;
+    let found = single(alloc, first)?;
     further_sections(alloc, tokens, found)
 }
 

@@ -1,22 +1,18 @@
 -- Syntax errors: their codes, and where their tokens stand.
-use Rattle.std.proofs.Common.{◌≡◌, ℕ, zero, suc, ◌<◌, ◌≤◌, List, [], ◌∷◌, length, map, All, Some, Ok, Err, refl, ap, subst, ◌∙◌, arith}
-use Rattle.std.specs.Prelude.{◌≢◌}
+use Rattle.std.proofs.Common.{◌≡◌, ℕ, zero, suc, ◌<◌, ◌≤◌, List, [], ◌∷◌, length, map, All, refl, subst, arith}
 use Rattle.std.proofs.lemmas.List.{length-map}
 use Rattle.std.proofs.lemmas.List.Elements.{All-map}
 use Rattle.std.proofs.lemmas.Map.Keys.{sorted_from_strictly_increasing}
 use Rattle.std.proofs.lemmas.Map.Views.{length-le_from_below}
-use Rattle.mp_ast.specs.declared.blocks.Tree.{Tree}
 use Rattle.mp_ast.specs.declared.tokens.Token.{Token}
 use Rattle.mp_ast.specs.declared.tokens.TokenKind.{TokenKind}
-use Rattle.mp_ast.specs.Programs.{standard, start_of}
-use Rattle.mp_cursor.specs.declared.failure.Failure.{Failure}
-use Rattle.mp_cursor.specs.declared.failure.Failure.TheVariants.{Memory, Wrong, TooDeep, TooMany}
-use Rattle.mp_cursor.specs.Parsers.{Outcome}
+use Rattle.mp_ast.specs.Programs.{standard}
+use Rattle.mp_ast.specs.FirstError.{HasCode}
+use Rattle.mp_ast.specs.FirstError.HasCode.{ends_early, follows_the_program, too_many_blocks, nested_too_deep, wrong}
 use Rattle.mp_lex.specs.Order.{AreTokensInOrder}
-use Rattle.mp_parse.specs.Blocks.{program}
 use Rattle.mp_parse.specs.declared.errors.ParseError.{ParseError}
 use Rattle.mp_parse.specs.declared.errors.ParseError.TheVariants as error
-use Rattle.mp_parse.specs.Errors.{SyntaxError, behind_program, error_of, first_error, first_error_of, told}
+use Rattle.mp_parse.specs.Errors.{NamesFirstError}
 use Rattle.mp_diag.specs.Codes.{IsListed, table}
 use Rattle.mp_session.specs.Listing.{start_at}
 
@@ -42,33 +38,17 @@ behind_listed : IsListed 205
 unfolding table
 behind_listed = refl
 
--- an error with a code that is listed
-with_code : (token code : ℕ) (found : SyntaxError) → Some (record { token = token; code = code }) ≡ Some found → IsListed code → IsListed found.code
-with_code token code found h listed = let e : record { token = token; code = code } ≡ found = cc in subst (λ c. IsListed c) (ap (λ x. x.code) e) listed
-
-failure_listed : (failure : Failure) (count : ℕ) (found : SyntaxError) → told (error_of failure count) ≡ Some found → IsListed found.code
-failure_listed Memory count found h = absurd (let n : ⊥ = cc in n)
-failure_listed (Wrong zero) count found h = with_code _ 202 found h end_listed
-failure_listed (Wrong (suc left)) count found h = with_code _ 201 found h syntax_listed
-failure_listed (TooDeep left) count found h = with_code _ 203 found h depth_listed
-failure_listed (TooMany left) count found h = with_code _ 204 found h number_listed
-
-rest_listed : (left count : ℕ) (found : SyntaxError) → behind_program left count ≡ Some found → IsListed found.code
-rest_listed zero count found h = absurd (let n : ⊥ = cc in n)
-rest_listed (suc left) count found h = with_code _ 205 found h behind_listed
-
-outcome_listed : (outcome : Outcome Tree) (count : ℕ) (found : SyntaxError) → first_error_of outcome count ≡ Some found → IsListed found.code
-outcome_listed (Ok read) count found h = rest_listed (length read.1.rest) count found h
-outcome_listed (Err failure) count found h = failure_listed failure count found h
-
--- the code of a first error is one of a listing
-pub first_listed : (kinds : List TokenKind) (found : SyntaxError) → first_error kinds ≡ Some found → IsListed found.code
-unfolding first_error
-first_listed kinds found h = outcome_listed (program standard (start_of kinds)) (length kinds) found h
+-- the code of an error is one of a listing
+code_listed : (kinds : List TokenKind) (index code : ℕ) → HasCode standard kinds index code → IsListed code
+code_listed kinds index _ (ends_early e) = end_listed
+code_listed kinds index _ (follows_the_program l t) = behind_listed
+code_listed kinds index _ (too_many_blocks l n m) = number_listed
+code_listed kinds index _ (nested_too_deep l n m d) = depth_listed
+code_listed kinds index _ (wrong l n d) = syntax_listed
 
 -- and so is that of an error that the parser tells
-pub told_listed : (kinds : List TokenKind) (token code : ℕ) (e : ParseError) → e ≡ error.Syntax token code → (e ≢ error.Memory → first_error kinds ≡ told e) → IsListed code
-told_listed kinds token code e s h = first_listed kinds (record { token = token; code = code }) (h (λ m. let n : ⊥ = cc in n) ∙ ap told s)
+pub told_listed : (kinds : List TokenKind) (token code : ℕ) (e : ParseError) → e ≡ error.Syntax token code → NamesFirstError kinds e → IsListed code
+told_listed kinds token code e s h = code_listed kinds token code (subst (NamesFirstError kinds) s h).cause
 
 -- ---- places
 
