@@ -59,7 +59,7 @@ pub struct Width<X> {
 #[derive(Drop)]
 pub struct Actual<X> {
     pub value: X,
-    pub width: Option<Width<X>>,
+    pub width: Option<Boxed<Width<X>>>,
 }
 
 /// A member of a set constructor: one value, or all from the first to the last (ISO 7185, 6.7.1).

@@ -51,7 +51,7 @@ pub enum Statement {
     /// The ordinal of `repeat`, the statements, and the condition.
     Repeat(u32, Items<Statement>, Expr),
     /// The ordinal of `for`, its head, and the body.
-    For(u32, ForHead, Boxed<Statement>),
+    For(u32, Boxed<ForHead>, Boxed<Statement>),
     /// The ordinal of `with`, the records, and the body.
     With(u32, Items<Access<Expr>>, Boxed<Statement>),
 }

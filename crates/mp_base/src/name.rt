@@ -7,15 +7,19 @@ ghost use Rattle.std.specs.Cmp.Lexicographic.{nat_list_eq_equiv, bytes_decides};
 ghost use Rattle.mp_base.specs.Name.{IsWord, IsName, lower_case};
 
 use crate::memory::Memory;
+use smallvec::SmallVec;
 use std::alloc::Global;
 use std::hash::{Hash, Hasher};
 use std::marker::Model;
+
+// Up to so many letters and digits stand in the name itself; most names in programs have no more.
+type Letters = SmallVec<u8, 16>;
 
 /// The spelling of an identifier or of a label's digits, in lower case: letter case is not significant (ISO 7185,
 /// 6.1.3). It is a key for maps.
 #[derive(Debug, Drop)]
 pub struct Name {
-    items: Vec<u8>,
+    items: Letters,
 }
 
 impl Model for Name {
@@ -50,7 +54,7 @@ impl Hash for Name {
     }
 }
 
-fn lower_cased(alloc: Global, bytes: &[u8]) -> Result<Vec<u8>, Memory>
+fn lower_cased(alloc: Global, bytes: &[u8]) -> Result<Letters, Memory>
     ensures { IfOk result (λ made. made.items ≡ lower_case bytes.now) }
 {
     let items = bytes
@@ -77,7 +81,7 @@ impl Name {
     {
         let alloc = *self.items.allocator();
         Ok(Name {
-            items: Vec::from_slice(alloc, self.items.as_slice())?,
+            items: SmallVec::from_slice(alloc, self.items.as_slice())?,
         })
     }
 

@@ -192,14 +192,15 @@ fn optional_width(
     alloc: Global,
     tokens: &mut Cursor<'_>,
     room: usize,
-) -> Result<Option<Width<Expr>>, Failure>
+) -> Result<Option<Boxed<Width<Expr>>>, Failure>
     requires { 0 < room }
     ensures { Reads (spec.optional_width room (behind room) tokens.old) result tokens.new }
 {
     if !tokens.sees(Next::Symbol(Symbol::Colon)) {
         return Ok(None);
     }
-    Ok(Some(width(alloc, tokens, room)?))
+    let found = width(alloc, tokens, room)?;
+    Ok(Some(Boxed::new(alloc, found)?))
 }
 
 #[cycle(expressions)]

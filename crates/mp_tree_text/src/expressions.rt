@@ -50,6 +50,7 @@ fn actual(out: &mut Written, x: &Actual<Expr>) -> Outcome {
     match &x.width {
         None => expression(out, &x.value),
         Some(width) => {
+            let width = width.get();
             out.open_token(":", width.at)?;
             expression(out, &x.value)?;
             expression(out, &width.value)?;

@@ -87,7 +87,7 @@ fn repetitive(out: &mut Written, x: &Statement) -> Outcome {
         }
         Statement::For(at, head, body) => {
             out.open_token("for", *at)?;
-            for_head(out, head)?;
+            for_head(out, head.get())?;
             statement(out, body.get())?;
         }
         _ => return Ok(()),
