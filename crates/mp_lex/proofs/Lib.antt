@@ -7,5 +7,6 @@ pub mod StringLemmas
 pub mod ItemLemmas
 pub mod SplitLemmas
 pub mod LexedLemmas
+pub mod BlankLemmas
 pub mod OrderLemmas
 pub mod TwoBytes

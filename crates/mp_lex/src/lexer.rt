@@ -3,6 +3,7 @@ ghost use Rattle.mp_lex.specs.Lexed.{error_of, lexical_errors, lexical_tokens, t
 ghost use Rattle.mp_lex.specs.Order.{AreErrorsInOrder, AreTokensInOrder};
 
 use crate::items::{item_end, meaning};
+use crate::marks::is_blank;
 use crate::meaning::Meaning;
 use mp_ast::{LexError, LexErrors, Lexed, Token, Tokens};
 use mp_base::{Memory, SCRIPT_LIMIT};
@@ -43,6 +44,10 @@ pub fn lex(alloc: Global, text: &[u8]) -> Result<Lexed, Memory>
     let mut errors = LexErrors::new(alloc);
     let mut at = 0;
     'items: while at < text.len() {
+        if is_blank(text[at]) {
+            at += 1;
+            continue 'items;
+        }
         let end = item_end(text, at);
         let found = meaning(alloc, &text[at..end])?;
         add(

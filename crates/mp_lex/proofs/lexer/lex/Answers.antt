@@ -1,11 +1,15 @@
-use Rattle.std.proofs.Common.{ap, ◌∙◌, ◌++◌, ◌-◌}
+use Rattle.std.proofs.Common.{ap, sym, ◌∙◌, ◌++◌, ◌-◌}
 use Rattle.mp_lex.specs.Lexed.{token_of, error_of}
+use Rattle.mp_lex.proofs.BlankLemmas.{lexed_blank}
 use Rattle.mp_lex.proofs.LexedLemmas.{lexed_none, lexed_more, lexed_tokens, lexed_errors}
 use Rattle.mp_lex.proofs.OrderLemmas.{tokens_in_order, errors_in_order}
 use Rattle.mp_lex.proofs.lexer.lex.Goals as goal
 
 pub items-init : goal.items-init
 items-init c = lexed_none c.args.text.now c.new-tokens.result c.new-errors.result c.new-tokens.ensures c.new-errors.ensures
+
+pub items-preserved-then-is_blank : goal.items-preserved-then-is_blank
+items-preserved-then-is_blank c = lexed_blank c.args.text.now c.items.at c.items.tokens c.items.errors c.items.invariant c.items-test.true (sym c.if-is_blank.ensures)
 
 pub items-preserved : goal.items-preserved
 items-preserved c =
