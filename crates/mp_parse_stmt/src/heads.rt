@@ -6,7 +6,7 @@ ghost use Rattle.mp_parse_stmt.specs.Statements as spec;
 use mp_ast::{Access, Direction, Expr, ForHead, Symbol, WordSymbol};
 use mp_cursor::{Cursor, Failure, Next, single};
 use mp_parse_expr::{access, expression};
-use sqlite_items::Items;
+use sqlite_items::{Boxed, Items};
 use std::alloc::Global;
 
 // In these functions `room` is how many more openers may stand open.
@@ -23,13 +23,8 @@ fn direction(tokens: &mut Cursor<'_>) -> Result<Direction, Failure>
     Ok(Direction::Downto)
 }
 
-/// The control variable and the limits of a for statement (ISO 7185, 6.8.3.9).
 #[tactic(auto, unfolding(crate::specs::Statements::for_head))]
-pub(crate) fn for_head(
-    alloc: Global,
-    tokens: &mut Cursor<'_>,
-    room: usize,
-) -> Result<ForHead, Failure>
+fn head_of_for(alloc: Global, tokens: &mut Cursor<'_>, room: usize) -> Result<ForHead, Failure>
     ensures { Reads (spec.for_head (expressions.expression room) tokens.old) result tokens.new }
 {
     let variable = tokens.identifier()?;
@@ -44,6 +39,18 @@ pub(crate) fn for_head(
         direction,
         last,
     })
+}
+
+/// The control variable and the limits of a for statement (ISO 7185, 6.8.3.9).
+pub(crate) fn for_head(
+    alloc: Global,
+    tokens: &mut Cursor<'_>,
+    room: usize,
+) -> Result<Boxed<ForHead>, Failure>
+    ensures { Reads (spec.for_head (expressions.expression room) tokens.old) result tokens.new }
+{
+    let head = head_of_for(alloc, tokens, room)?;
+    Ok(Boxed::new(alloc, head)?)
 }
 
 // One more record behind a comma.

@@ -244,7 +244,6 @@ fn for_statement(alloc: Global, tokens: &mut Cursor<'_>, room: usize) -> Result<
     let head = for_head(alloc, tokens, room - 1)?;
     tokens.expect(Next::Word(WordSymbol::Do))?;
     let body = statement(alloc, tokens, room - 1)?;
-    let head = Boxed::new(alloc, head)?;
     Ok(Statement::For(at, head, Boxed::new(alloc, body)?))
 }
 
