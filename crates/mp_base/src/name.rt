@@ -57,11 +57,9 @@ impl Hash for Name {
 fn lower_cased(alloc: Global, bytes: &[u8]) -> Result<Letters, Memory>
     ensures { IfOk result (λ made. made.items ≡ lower_case bytes.now) }
 {
-    let items = bytes
-        .iter()
-        .map(|byte| byte.to_ascii_lowercase())
-        .collect(alloc)?;
-    Ok(items)
+    let mut letters = SmallVec::from_slice(alloc, bytes)?;
+    letters.as_mut_slice().make_ascii_lowercase();
+    Ok(letters)
 }
 
 impl Name {

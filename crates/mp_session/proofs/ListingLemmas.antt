@@ -1,5 +1,5 @@
 -- The listing of a text, case by case.
-use Rattle.std.proofs.Common.{◌≡◌, ◌≢◌, ℕ, zero, suc, ◌<◌, ◌≤◌, true, false, List, [], ◌∷◌, length, None, Some, subst, get_or, ◌==◌, All, refl, ap, sym, ◌∙◌, arith}
+use Rattle.std.proofs.Common.{◌≡◌, ◌≢◌, ℕ, zero, suc, ◌<◌, ◌≤◌, true, false, List, [], ◌∷◌, length, Some, get_or, ◌==◌, All, refl, ap, sym, ◌∙◌, arith}
 use Rattle.std.specs.Prelude.{Result, IfOk}
 use Rattle.std.proofs.lemmas.Bool.{eqb-true}
 use Rattle.std.proofs.lemmas.Result.{IfOk-weaker}
@@ -15,8 +15,7 @@ use Rattle.mp_parse.specs.Errors.{first_error, told}
 use Rattle.mp_diag.specs.Codes.{IsListed}
 use Rattle.mp_diag.specs.Listing.{listing, shown_errors}
 use Rattle.mp_diag.proofs.ListedLemmas.{lexical_listed, shown_listed}
-use Rattle.mp_session.specs.Departure.{departure, empty_program}
-use Rattle.mp_session.specs.Listing.{built_or_not, lexed_listing, parsed_listing, shown_syntax, text_listing}
+use Rattle.mp_session.specs.Listing.{lexed_listing, parsed_listing, shown_syntax, text_listing}
 
 is_lexed : (text : List (List ℕ)) → text_listing text ≡ lexed_listing text (lexical_tokens (bytes_of text)) (lexical_errors (bytes_of text))
 unfolding text_listing
@@ -40,23 +39,15 @@ parsed bytes text tokens errors b t e h =
     is_lexed text ∙ no_errors text (lexical_tokens (bytes_of text)) (lexical_errors (bytes_of text)) (ap length (sym (e ∙ ap lexical_errors b)) ∙ h)
     ∙ ap (λ ts. parsed_listing text ts (first_error (kinds_of ts))) (sym (t ∙ ap lexical_tokens b))
 
--- the listing of a program
-pub of_program : (bytes : List ℕ) (text : List (List ℕ)) (tokens now : List Token) (answer built : Result (List ℕ) Memory) → bytes ≡ bytes_of text → now ≡ tokens → first_error (kinds_of tokens) ≡ None → answer ≡ built
-    → IfOk built (λ b. b ≡ built_or_not text (departure empty_program now (length bytes))) → IfOk answer (λ b. b ≡ parsed_listing text tokens (first_error (kinds_of tokens)))
-of_program bytes text tokens now answer built b n f a h =
-    let same = ap (λ ts. built_or_not text (departure empty_program ts (length bytes))) n ∙ ap (λ bs. built_or_not text (departure empty_program tokens (length bs))) b ∙ ap (parsed_listing text tokens) (sym f) in
-    subst (λ r. IfOk r (λ b. b ≡ parsed_listing text tokens (first_error (kinds_of tokens)))) (sym a)
-    (IfOk-weaker built (λ b. b ≡ built_or_not text (departure empty_program now (length bytes))) (λ b. b ≡ parsed_listing text tokens (first_error (kinds_of tokens))) (λ b e. e ∙ same) h)
-
--- the listing of a syntax error
-pub of_error : (text : List (List ℕ)) (tokens now : List Token) (token code : ℕ) (failure : ParseError) (answer listed : Result (List ℕ) Memory) → now ≡ tokens → failure ≡ error.Syntax token code
-    → (failure ≢ error.Memory → first_error (kinds_of tokens) ≡ told failure) → answer ≡ listed
-    → IfOk listed (λ b. b ≡ listing (shown_syntax text now (record { token = token; code = code }) ∷ [])) → IfOk answer (λ b. b ≡ parsed_listing text tokens (first_error (kinds_of tokens)))
-of_error text tokens now token code failure answer listed n s f a h =
+-- the listing of a syntax error that the parser told as this token and this code
+pub of_error : (text : List (List ℕ)) (tokens now : List Token) (token code token_told code_told : ℕ) (failure : ParseError) (listed : Result (List ℕ) Memory) → now ≡ tokens → token_told ≡ token → code_told ≡ code → failure ≡ error.Syntax token code
+    → (failure ≢ error.Memory → first_error (kinds_of tokens) ≡ told failure)
+    → IfOk listed (λ b. b ≡ listing (shown_syntax text now (record { token = token_told; code = code_told }) ∷ [])) → IfOk listed (λ b. b ≡ parsed_listing text tokens (first_error (kinds_of tokens)))
+of_error text tokens now token code token_told code_told failure listed n t c s f h =
     let found : first_error (kinds_of tokens) ≡ Some (record { token = token; code = code }) = f (λ q. let z : ⊥ = cc in z) ∙ ap told s in
-    let same = ap (λ ts. listing (shown_syntax text ts (record { token = token; code = code }) ∷ [])) n ∙ ap (parsed_listing text tokens) (sym found) in
-    subst (λ r. IfOk r (λ b. b ≡ parsed_listing text tokens (first_error (kinds_of tokens)))) (sym a)
-    (IfOk-weaker listed (λ b. b ≡ listing (shown_syntax text now (record { token = token; code = code }) ∷ [])) (λ b. b ≡ parsed_listing text tokens (first_error (kinds_of tokens))) (λ b e. e ∙ same) h)
+    let parts = ap (λ token. listing (shown_syntax text now (record { token = token; code = code_told }) ∷ [])) t ∙ ap (λ code. listing (shown_syntax text now (record { token = token; code = code }) ∷ [])) c in
+    let same = parts ∙ ap (λ ts. listing (shown_syntax text ts (record { token = token; code = code }) ∷ [])) n ∙ ap (parsed_listing text tokens) (sym found) in
+    IfOk-weaker listed (λ b. b ≡ listing (shown_syntax text now (record { token = token_told; code = code_told }) ∷ [])) (λ b. b ≡ parsed_listing text tokens (first_error (kinds_of tokens))) (λ b e. e ∙ same) h
 
 all_listed : (errors : List LexError) → All (λ error. (101 ≤ error.code) × (error.code ≤ 108)) errors → All (λ error. IsListed error.code) errors
 all_listed errors h = λ k d lt. let p = h k d lt in lexical_listed (get_or errors k d).code p.0 p.1

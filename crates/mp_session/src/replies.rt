@@ -4,7 +4,7 @@ ghost use Rattle.mp_script.specs.Meaning.{wants_of};
 ghost use Rattle.mp_session.specs.Replies.{back_reply, edit_reply, input_reply, list_reply, list_transcript, meant_version, one_line, refusal_line, reply, text_reply, version_line};
 ghost use Rattle.mp_text.specs.Edits.{new_lines};
 
-use crate::listing::text_listing;
+use crate::listing::{Afterwards, text_listing};
 use crate::state::State;
 use crate::texts::limit_refusal;
 use itoa::Buffer;
@@ -98,7 +98,7 @@ fn list(alloc: Global, state: &State, version: u32) -> Result<Bytes, Memory>
     ensures { IfOk result (λ bytes. list_reply state.now version ≡ record { state = state.now; bytes = bytes }) }
 {
     match state.versions.bytes(Version(version)) {
-        Ok(bytes) => text_listing(alloc, bytes.get()),
+        Ok(bytes) => text_listing(alloc, bytes.get(), Afterwards::GoesOn),
         Err(TextError::Memory) => Err(Memory),
         Err(error) => refusal(alloc, error, u64::from(version)),
     }
@@ -194,14 +194,15 @@ pub(crate) fn reply(alloc: Global, state: &mut State, command: Command) -> Resul
 }
 
 /// What is written where the listing of a text, whose last line is ended, is asked for outside a session: its
-/// listing, or the line of the refusal where it breaks a limit.
+/// listing, or the line of the refusal where it breaks a limit. It is for a program that ends then: the memory of what
+/// the listing was made from is left to the system.
 pub fn list_transcript(alloc: Global, text: &[u8]) -> Result<Bytes, Memory>
     requires few { length text.now ≤ SCRIPT_LIMIT }
     requires ended { text.now ≡ bytes_of (lines_of text.now) }
     ensures { IfOk result (λ bytes. bytes ≡ list_transcript (lines_of text.now)) }
 {
     match limit_refusal(text) {
-        None => text_listing(alloc, text),
+        None => text_listing(alloc, text, Afterwards::Ends),
         Some(error) => refusal(alloc, error, 0),
     }
 }
