@@ -1,5 +1,5 @@
 -- The number of the first line that is too long, found by going over the bytes of a text.
-use Rattle.std.proofs.Common.{◌≡◌, ℕ, suc, ◌+◌, ◌<◌, ◌≤◌, true, false, ◌==◌, cond, List, [], ◌∷◌, length, get_or, drop, Option, Some, None, refl, ap, sym, ◌∙◌, arith, nat_lt, if◌then◌else◌, ⊎_elim}
+use Rattle.std.proofs.Common.{◌≡◌, ℕ, zero, suc, ◌+◌, ◌-◌, ◌<◌, ◌≤◌, true, false, ◌==◌, cond, List, [], ◌∷◌, length, get_or, drop, Option, Some, None, refl, ap, sym, subst, ◌∙◌, arith, nat_lt, if◌then◌else◌, ⊎_elim}
 use Rattle.std.specs.List.{position_from}
 use Rattle.std.proofs.lemmas.List.{drop_more, drop_all}
 use Rattle.std.proofs.lemmas.Bool.{eqb-true, le-leb, lt-leb, cases_lt}
@@ -86,3 +86,42 @@ long_at_stop number before bytes i h e le = ap (long_from number before) (drop_m
 pub long_behind : (number before : ℕ) (bytes : List ℕ) (i : ℕ) → length bytes ≤ i → long_from number before (drop i bytes) ≡ None
 unfolding long_from
 long_behind number before bytes i h = ap (long_from number before) (drop_all i bytes h)
+
+-- no line from this place on is too long, wherever numbers begin
+abbrev pub HasNoLong : List ℕ → ℕ → Type 0
+HasNoLong bytes i = (number : ℕ) → long_from number 0 (drop i bytes) ≡ None
+
+one_byte : (bytes : List ℕ) (i number before : ℕ) → i < length bytes → before < LINE_LIMIT → long_from (number + 1) 0 (drop (i + 1) bytes) ≡ None → long_from number (before + 1) (drop (i + 1) bytes) ≡ None → long_from number before (drop i bytes) ≡ None
+one_byte bytes i number before h l end more =
+    elim (get_or bytes i 0 == 10) as (λ v. (get_or bytes i 0 == 10) ≡ v → long_from number before (drop i bytes) ≡ None) [
+      | true ↦ λ e. sym (long_at_end number before bytes i h (eqb-true (get_or bytes i 0) 10 e)) ∙ end
+      | false ↦ λ e. sym (long_at_more number before bytes i h e l) ∙ more
+    ] refl
+
+-- up to a line end that is near enough, no line is
+line_short : (bytes : List ℕ) (d i number before : ℕ) → i + d < length bytes → get_or bytes (i + d) 0 ≡ 10 → before + d ≤ LINE_LIMIT → HasNoLong bytes (i + d + 1) → long_from number before (drop i bytes) ≡ None
+line_short bytes zero i number before h e s n =
+    let same : i + 0 ≡ i = omega arith in
+    sym (long_at_end number before bytes i (omega arith) (subst (λ k. get_or bytes k 0 ≡ 10) same e)) ∙ subst (λ k. long_from (number + 1) 0 (drop (k + 1) bytes) ≡ None) same (n (number + 1))
+line_short bytes (suc d) i number before h e s n =
+    let same : i + suc d ≡ i + 1 + d = omega arith in
+    let there = subst (λ k. get_or bytes k 0 ≡ 10) same e in
+    let rest : HasNoLong bytes (i + 1 + d + 1) = subst (λ k. HasNoLong bytes (k + 1)) same n in
+    one_byte bytes i number before (omega arith) (omega arith) (line_short bytes d (i + 1) (number + 1) 0 (omega arith) there (omega arith) rest) (line_short bytes d (i + 1) number (before + 1) (omega arith) there (omega arith) rest)
+
+-- nor where so few bytes are left
+rest_short : (bytes : List ℕ) (d i number before : ℕ) → i + d ≡ length bytes → before + d ≤ LINE_LIMIT → long_from number before (drop i bytes) ≡ None
+rest_short bytes zero i number before h s = long_behind number before bytes i (omega arith)
+rest_short bytes (suc d) i number before h s =
+    one_byte bytes i number before (omega arith) (omega arith) (rest_short bytes d (i + 1) (number + 1) 0 (omega arith) (omega arith)) (rest_short bytes d (i + 1) number (before + 1) (omega arith) (omega arith))
+
+pub short_up_to : (bytes : List ℕ) (i end : ℕ) → i ≤ end → end < i + LINE_LIMIT + 1 → end < length bytes → get_or bytes end 0 ≡ 10 → HasNoLong bytes (end + 1) → HasNoLong bytes i
+short_up_to bytes i end b w h e n number =
+    let same : end ≡ i + (end - i) = omega arith in
+    line_short bytes (end - i) i number 0 (omega arith) (subst (λ k. get_or bytes k 0 ≡ 10) same e) (omega arith) (subst (λ k. HasNoLong bytes (k + 1)) same n)
+
+pub short_from : (bytes : List ℕ) (i : ℕ) → i ≤ length bytes → length bytes ≤ i + LINE_LIMIT → HasNoLong bytes i
+short_from bytes i h s number = rest_short bytes (length bytes - i) i number 0 (omega arith) (omega arith)
+
+pub none_is_long : (bytes : List ℕ) → HasNoLong bytes 0 → position_from is_long 1 (lines_of bytes) ≡ None
+none_is_long bytes n = sym (long_from_is bytes) ∙ n 1
