@@ -1,4 +1,4 @@
-ghost use Rattle.std.specs.Prelude.{◌≡◌, [], ◌∷◌, ◌++◌, OnOk, OnErr};
+ghost use Rattle.std.specs.Prelude.{◌≡◌, [], ◌∷◌, ◌++◌, IfOk, OnOk, OnErr};
 
 use crate::symbols::Symbol;
 use crate::words::WordSymbol;
@@ -48,13 +48,13 @@ impl Model for Tokens {
 }
 
 impl Tokens {
-    /// No tokens.
-    pub fn new(alloc: Global) -> Tokens
-        ensures { result ≡ [] }
+    /// No tokens, with room for so many.
+    pub fn with_capacity(alloc: Global, capacity: usize) -> Result<Tokens, Memory>
+        ensures { IfOk result (λ tokens. tokens ≡ []) }
     {
-        Tokens {
-            items: Vec::new(alloc),
-        }
+        Ok(Tokens {
+            items: Vec::with_capacity(alloc, capacity)?,
+        })
     }
 
     /// Adds a token at the end; want of memory leaves the list as it is.

@@ -9,6 +9,9 @@ use mp_ast::{LexError, LexErrors, Lexed, Token, Tokens};
 use mp_base::{Memory, SCRIPT_LIMIT};
 use std::alloc::Global;
 
+// Most programs have fewer tokens than one for so many bytes, so that their list need not grow.
+const BYTES_A_TOKEN: usize = 4;
+
 // Adds what an item means.
 fn add(
     tokens: &mut Tokens,
@@ -40,7 +43,7 @@ pub fn lex(alloc: Global, text: &[u8]) -> Result<Lexed, Memory>
     ensures tokens_in_order { IfOk result (λ lexed. AreTokensInOrder text.now lexed.tokens) }
     ensures errors_in_order { IfOk result (λ lexed. AreErrorsInOrder text.now lexed.errors) }
 {
-    let mut tokens = Tokens::new(alloc);
+    let mut tokens = Tokens::with_capacity(alloc, text.len() / BYTES_A_TOKEN)?;
     let mut errors = LexErrors::new(alloc);
     let mut at = 0;
     'items: while at < text.len() {
