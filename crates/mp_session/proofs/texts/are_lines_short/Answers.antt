@@ -1,4 +1,4 @@
-use Rattle.std.proofs.Common.{length, arith}
+use Rattle.std.proofs.Common.{arith}
 use Rattle.mp_session.proofs.TextLemmas.{none_is_long, short_from, short_up_to}
 use Rattle.mp_session.proofs.texts.are_lines_short.Goals as goal
 
