@@ -5,7 +5,7 @@ use crate::leaves::{Constant, Identifier, Number};
 use crate::statements::Statement;
 use crate::types::{Denoter, Section};
 use mp_base::{Memory, TEXT_LIMIT};
-use sqlite_items::Items;
+use sqlite_items::{Boxed, Items};
 use std::alloc::Global;
 use std::marker::Model;
 use std::sync::Arc;
@@ -30,7 +30,7 @@ pub struct ConstantDefinition {
 #[derive(Drop)]
 pub struct TypeDefinition {
     pub name: Identifier,
-    pub of: Denoter,
+    pub of: Boxed<Denoter>,
     /// The ordinal of its `;`.
     pub semicolon: u32,
 }

@@ -15,9 +15,9 @@ pub struct ForHead {
     pub variable: Identifier,
     /// The ordinal of `:=`.
     pub assign: u32,
-    pub first: Expr,
+    pub first: Boxed<Expr>,
     pub direction: Direction,
-    pub last: Expr,
+    pub last: Boxed<Expr>,
 }
 
 /// A case-list-element: constants and the statement for them (ISO 7185, 6.8.3.5). `S` is what statements are.
@@ -43,11 +43,11 @@ pub enum Statement {
     /// The ordinal of `begin`, and the statements.
     Compound(u32, Items<Statement>),
     /// The ordinal of `if`, the condition, and the one or two statements.
-    If(u32, Expr, Boxed<Statement>, Option<Boxed<Statement>>),
+    If(u32, Boxed<Expr>, Boxed<Statement>, Option<Boxed<Statement>>),
     /// The ordinal of `case`, the index, and the arms.
-    Case(u32, Expr, Items<Arm<Statement>>),
+    Case(u32, Boxed<Expr>, Items<Arm<Statement>>),
     /// The ordinal of `while`, the condition, and the body.
-    While(u32, Expr, Boxed<Statement>),
+    While(u32, Boxed<Expr>, Boxed<Statement>),
     /// The ordinal of `repeat`, the statements, and the condition.
     Repeat(u32, Items<Statement>, Expr),
     /// The ordinal of `for`, its head, and the body.

@@ -14,14 +14,14 @@ pub struct Index<D> {
 #[derive(Drop)]
 pub struct Section<D> {
     pub names: Items<Identifier>,
-    pub of: D,
+    pub of: Boxed<D>,
 }
 
 /// The constants of a variant, and its fields (ISO 7185, 6.4.3.3).
 #[derive(Drop)]
 pub struct Variant<D> {
     pub constants: Items<Constant>,
-    pub fields: D,
+    pub fields: Boxed<D>,
 }
 
 /// The variant part of a record (ISO 7185, 6.4.3.3).
