@@ -9,7 +9,7 @@ use mp_base::OPENER_LIMIT;
 use mp_cursor::{Cursor, Failure, Next, constant, single};
 use mp_parse_stmt::sequence;
 use mp_parse_type::{denoter, section};
-use sqlite_items::Items;
+use sqlite_items::{Boxed, Items};
 use std::alloc::Global;
 
 // ---- labels
@@ -157,7 +157,7 @@ fn type_definition(alloc: Global, tokens: &mut Cursor<'_>) -> Result<TypeDefinit
 {
     let name = tokens.identifier()?;
     tokens.expect(Next::Symbol(Symbol::Equal))?;
-    let of = denoter(alloc, tokens, OPENER_LIMIT)?;
+    let of = Boxed::new(alloc, denoter(alloc, tokens, OPENER_LIMIT)?)?;
     let semicolon = tokens.expect(Next::Symbol(Symbol::Semicolon))?;
     Ok(TypeDefinition {
         name,

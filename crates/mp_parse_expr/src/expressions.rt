@@ -382,9 +382,9 @@ fn parenthesized(alloc: Global, tokens: &mut Cursor<'_>, room: usize) -> Result<
     ensures { Reads (spec.parenthesized room (behind room) tokens.old) result tokens.new }
 {
     let at = tokens.open(Next::Symbol(Symbol::LeftParen), room)?;
-    let inside = expression(alloc, tokens, room - 1)?;
+    let inside = Boxed::new(alloc, expression(alloc, tokens, room - 1)?)?;
     tokens.expect(Next::Symbol(Symbol::RightParen))?;
-    Ok(Expr::Inside(at, Boxed::new(alloc, inside)?))
+    Ok(Expr::Inside(at, inside))
 }
 
 #[cycle(expressions)]
@@ -578,8 +578,9 @@ pub fn expression(alloc: Global, tokens: &mut Cursor<'_>, room: usize) -> Result
     if !is_relational(tokens.next()) {
         return Ok(left);
     }
-    let right = related(alloc, tokens, room)?;
-    Ok(Expr::Relation(Boxed::new(alloc, left)?, Boxed::new(alloc, right)?))
+    let left = Boxed::new(alloc, left)?;
+    let right = Boxed::new(alloc, related(alloc, tokens, room)?)?;
+    Ok(Expr::Relation(left, right))
 }
 
 /// A variable (ISO 7185, 6.5), where so many more openers may stand open.

@@ -29,9 +29,9 @@ fn head_of_for(alloc: Global, tokens: &mut Cursor<'_>, room: usize) -> Result<Fo
 {
     let variable = tokens.identifier()?;
     let assign = tokens.expect(Next::Symbol(Symbol::Assign))?;
-    let first = expression(alloc, tokens, room)?;
+    let first = Boxed::new(alloc, expression(alloc, tokens, room)?)?;
     let direction = direction(tokens)?;
-    let last = expression(alloc, tokens, room)?;
+    let last = Boxed::new(alloc, expression(alloc, tokens, room)?)?;
     Ok(ForHead {
         variable,
         assign,

@@ -183,7 +183,7 @@ fn if_statement(alloc: Global, tokens: &mut Cursor<'_>, room: usize) -> Result<S
     ensures { Reads (spec.if_statement room (behind room) tokens.old) result tokens.new }
 {
     let at = tokens.open(Next::Word(WordSymbol::If), room)?;
-    let condition = expression(alloc, tokens, room - 1)?;
+    let condition = Boxed::new(alloc, expression(alloc, tokens, room - 1)?)?;
     tokens.expect(Next::Word(WordSymbol::Then))?;
     let first = Boxed::new(alloc, statement(alloc, tokens, room - 1)?)?;
     let second = else_part(alloc, tokens, room - 1)?;
@@ -196,7 +196,7 @@ fn case_statement(alloc: Global, tokens: &mut Cursor<'_>, room: usize) -> Result
     ensures { Reads (spec.case_statement room (behind room) tokens.old) result tokens.new }
 {
     let at = tokens.open(Next::Word(WordSymbol::Case), room)?;
-    let index = expression(alloc, tokens, room - 1)?;
+    let index = Boxed::new(alloc, expression(alloc, tokens, room - 1)?)?;
     tokens.expect(Next::Word(WordSymbol::Of))?;
     let found = arms(alloc, tokens, room - 1)?;
     tokens.expect(Next::Word(WordSymbol::End))?;
@@ -213,10 +213,10 @@ fn while_statement(
     ensures { Reads (spec.while_statement room (behind room) tokens.old) result tokens.new }
 {
     let at = tokens.open(Next::Word(WordSymbol::While), room)?;
-    let condition = expression(alloc, tokens, room - 1)?;
+    let condition = Boxed::new(alloc, expression(alloc, tokens, room - 1)?)?;
     tokens.expect(Next::Word(WordSymbol::Do))?;
-    let body = statement(alloc, tokens, room - 1)?;
-    Ok(Statement::While(at, condition, Boxed::new(alloc, body)?))
+    let body = Boxed::new(alloc, statement(alloc, tokens, room - 1)?)?;
+    Ok(Statement::While(at, condition, body))
 }
 
 #[cycle(statements)]
@@ -243,8 +243,8 @@ fn for_statement(alloc: Global, tokens: &mut Cursor<'_>, room: usize) -> Result<
     let at = tokens.open(Next::Word(WordSymbol::For), room)?;
     let head = for_head(alloc, tokens, room - 1)?;
     tokens.expect(Next::Word(WordSymbol::Do))?;
-    let body = statement(alloc, tokens, room - 1)?;
-    Ok(Statement::For(at, head, Boxed::new(alloc, body)?))
+    let body = Boxed::new(alloc, statement(alloc, tokens, room - 1)?)?;
+    Ok(Statement::For(at, head, body))
 }
 
 #[cycle(statements)]
@@ -255,8 +255,8 @@ fn with_statement(alloc: Global, tokens: &mut Cursor<'_>, room: usize) -> Result
     let at = tokens.open(Next::Word(WordSymbol::With), room)?;
     let found = records(alloc, tokens, room - 1)?;
     tokens.expect(Next::Word(WordSymbol::Do))?;
-    let body = statement(alloc, tokens, room - 1)?;
-    Ok(Statement::With(at, found, Boxed::new(alloc, body)?))
+    let body = Boxed::new(alloc, statement(alloc, tokens, room - 1)?)?;
+    Ok(Statement::With(at, found, body))
 }
 
 // ---- statements
@@ -288,8 +288,8 @@ fn labelled(alloc: Global, tokens: &mut Cursor<'_>, room: usize) -> Result<State
 {
     let label = tokens.number()?;
     tokens.expect(Next::Symbol(Symbol::Colon))?;
-    let body = unlabelled(alloc, tokens, room)?;
-    Ok(Statement::Labelled(label, Boxed::new(alloc, body)?))
+    let body = Boxed::new(alloc, unlabelled(alloc, tokens, room)?)?;
+    Ok(Statement::Labelled(label, body))
 }
 
 /// A statement (ISO 7185, 6.8), where so many more openers may stand open.

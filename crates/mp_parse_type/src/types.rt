@@ -160,8 +160,8 @@ fn array_type(
     let indices = index_types(alloc, tokens, packed.unwrap_or(at))?;
     tokens.expect(Next::Symbol(Symbol::RightBracket))?;
     tokens.expect(Next::Word(WordSymbol::Of))?;
-    let of = denoter(alloc, tokens, room - 1)?;
-    Ok(Denoter::Array(packed.is_some(), indices, Boxed::new(alloc, of)?))
+    let of = Boxed::new(alloc, denoter(alloc, tokens, room - 1)?)?;
+    Ok(Denoter::Array(packed.is_some(), indices, of))
 }
 
 #[cycle(denoters)]
@@ -176,9 +176,8 @@ fn record_type(
     ensures { Reads (spec.record_type room (behind room) packed tokens.old) result tokens.new }
 {
     let at = structure_word(tokens, room, packed, WordSymbol::Record)?;
-    let fields = field_list(alloc, tokens, room - 1)?;
+    let fields = Boxed::new(alloc, field_list(alloc, tokens, room - 1)?)?;
     tokens.expect(Next::Word(WordSymbol::End))?;
-    let fields = Boxed::new(alloc, fields)?;
     Ok(Denoter::Record(packed.unwrap_or(at), packed.is_some(), fields))
 }
 
@@ -286,7 +285,7 @@ pub fn section(
 {
     let names = identifiers(alloc, tokens)?;
     tokens.expect(Next::Symbol(Symbol::Colon))?;
-    let of = denoter(alloc, tokens, room)?;
+    let of = Boxed::new(alloc, denoter(alloc, tokens, room)?)?;
     Ok(Section { names, of })
 }
 
@@ -298,7 +297,7 @@ fn variant(alloc: Global, tokens: &mut Cursor<'_>, room: usize) -> Result<Varian
     let constants = constants(alloc, tokens)?;
     tokens.expect(Next::Symbol(Symbol::Colon))?;
     tokens.expect(Next::Symbol(Symbol::LeftParen))?;
-    let fields = field_list(alloc, tokens, room)?;
+    let fields = Boxed::new(alloc, field_list(alloc, tokens, room)?)?;
     tokens.expect(Next::Symbol(Symbol::RightParen))?;
     Ok(Variant { constants, fields })
 }

@@ -41,7 +41,7 @@ fn types(out: &mut Written, x: &Block) -> Outcome {
     for x in x.types.as_slice() {
         out.open_word("type")?;
         identifier(out, &x.name)?;
-        denoter(out, &x.of)?;
+        denoter(out, x.of.get())?;
         out.token(";", x.semicolon)?;
         out.close()?;
     }

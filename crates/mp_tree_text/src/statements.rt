@@ -31,12 +31,12 @@ fn else_part(out: &mut Written, x: &Option<Boxed<Statement>>) -> Outcome {
 fn for_head(out: &mut Written, x: &ForHead) -> Outcome {
     identifier(out, &x.variable)?;
     out.token(":=", x.assign)?;
-    expression(out, &x.first)?;
+    expression(out, x.first.get())?;
     out.word(match x.direction {
         Direction::To => "to",
         Direction::Downto => "downto",
     })?;
-    expression(out, &x.last)
+    expression(out, x.last.get())
 }
 
 // `(a a ..)`
@@ -54,13 +54,13 @@ fn conditional(out: &mut Written, x: &Statement) -> Outcome {
     match x {
         Statement::If(at, condition, first, second) => {
             out.open_token("if", *at)?;
-            expression(out, condition)?;
+            expression(out, condition.get())?;
             statement(out, first.get())?;
             else_part(out, second)?;
         }
         Statement::Case(at, index, arms) => {
             out.open_token("case", *at)?;
-            expression(out, index)?;
+            expression(out, index.get())?;
             for x in arms.as_slice() {
                 arm(out, x)?;
             }
@@ -76,7 +76,7 @@ fn repetitive(out: &mut Written, x: &Statement) -> Outcome {
     match x {
         Statement::While(at, condition, body) => {
             out.open_token("while", *at)?;
-            expression(out, condition)?;
+            expression(out, condition.get())?;
             statement(out, body.get())?;
         }
         Statement::Repeat(at, list, condition) => {

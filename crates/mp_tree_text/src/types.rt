@@ -15,7 +15,7 @@ pub fn section(out: &mut Written, x: &Section<Denoter>) -> Outcome {
     out.open()?;
     identifiers(out, x.names.as_slice())?;
     out.word(":")?;
-    denoter(out, &x.of)?;
+    denoter(out, x.of.get())?;
     out.close()
 }
 
@@ -30,7 +30,7 @@ fn index(out: &mut Written, x: &Index<Denoter>) -> Outcome {
 fn variant(out: &mut Written, x: &Variant<Denoter>) -> Outcome {
     out.open_word("variant")?;
     constants(out, x.constants.as_slice())?;
-    denoter(out, &x.fields)?;
+    denoter(out, x.fields.get())?;
     out.close()
 }
 
