@@ -31,6 +31,3 @@ pub use place::{At, Place};
 pub use position::Positions;
 pub use steps::{Counting, Steps};
 pub use text::{TextLine, TextLines, end_last_line};
-
-#[cfg(test)]
-mod tests;

@@ -14,6 +14,3 @@ mod top;
 pub use forms::Form;
 pub use status::Status;
 pub use top::run_plain;
-
-#[cfg(test)]
-mod tests;

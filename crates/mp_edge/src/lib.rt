@@ -16,8 +16,6 @@ mod std_reader;
 mod std_sink;
 mod std_source;
 mod std_writer;
-#[cfg(test)]
-mod tests;
 mod tries;
 mod writing;
 

@@ -16,8 +16,6 @@ mod meaning;
 mod numbers;
 mod strings;
 mod symbols;
-#[cfg(test)]
-mod tests;
 mod words;
 
 pub use cause::Cause;

@@ -21,6 +21,3 @@ pub use laws::{
 };
 pub use lines::Lines;
 pub use parsing::command;
-
-#[cfg(test)]
-mod tests;

@@ -20,6 +20,3 @@ pub use laws::{so_far_begins_the_transcript, transcript_line_by_line};
 pub use replies::list_transcript;
 pub use session::{Session, SessionError, Turn};
 pub use state::State;
-
-#[cfg(test)]
-mod tests;

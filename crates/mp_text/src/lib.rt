@@ -18,6 +18,3 @@ mod texts;
 pub use edits::Edit;
 pub use errors::TextError;
 pub use texts::Texts;
-
-#[cfg(test)]
-mod tests;

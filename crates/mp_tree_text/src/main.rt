@@ -4,7 +4,7 @@
 //! The program reads texts, each ended by a line `=====`, and writes behind each text its answer. `stdin` has the
 //! texts: for each production of the grammar at least two, and then texts that are no programs. `stdout` has the same
 //! texts with the answers that are right, so that it is the page to read. Texts that are too long to write down, those
-//! at the limits, stand in `mp_parse_limits`.
+//! at the limits, stand in `mp_unit_tests`.
 //!
 //! # How an answer is written
 //!

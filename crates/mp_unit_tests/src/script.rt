@@ -1,5 +1,5 @@
-use crate::{Command, Lines, Verb, command};
 use mp_base::TextLines;
+use mp_script::{Command, Lines, Verb, command};
 use std::alloc::Global;
 use std::fmt::Write;
 use std::test::Fail;

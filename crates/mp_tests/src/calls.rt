@@ -1,14 +1,17 @@
 mod counted;
 mod faults;
 mod limits;
+mod openers;
+mod replies;
 mod scripts;
+mod syntax;
 mod texts;
 
-use crate::{Status, run_plain};
 use counted::Counted;
 use faults::Fault;
 use limits::Long;
 use mp_base::{Bytes, Memory};
+use mp_cli::{Status, run_plain};
 use mp_edge::{MemSink, MemSource};
 use std::alloc::Global;
 use std::process::Abort;
@@ -70,6 +73,9 @@ fn small_texts_have_their_listings(rt: HostRuntime) -> Result<(), Fail> {
     for table in texts::TABLES {
         are_answered(&rt, rt.alloc(), "list", table)?;
     }
+    for table in syntax::TABLES {
+        are_answered(&rt, rt.alloc(), "list", table)?;
+    }
     Ok(())
 }
 
@@ -77,6 +83,45 @@ fn small_texts_have_their_listings(rt: HostRuntime) -> Result<(), Fail> {
 fn small_scripts_have_their_transcripts(rt: HostRuntime) -> Result<(), Fail> {
     for table in scripts::TABLES {
         are_answered(&rt, rt.alloc(), "serial", table)?;
+    }
+    Ok(())
+}
+
+#[test]
+fn commands_have_their_replies(rt: HostRuntime) -> Result<(), Fail> {
+    let alloc = rt.alloc();
+    let mut script = Vec::new(alloc);
+    let mut replies = Vec::new(alloc);
+    for (command, reply) in replies::REPLIES {
+        script.extend_from_slice(command.as_bytes())?;
+        replies.extend_from_slice(reply.as_bytes())?;
+        // all replies to the commands so far
+        let called = answered(alloc, "serial", script.as_slice())?;
+        assert_eq!(rt; called.status, Status::Done);
+        assert_eq!(rt; called.written.get(), replies.as_slice(), "{command:?}");
+    }
+    Ok(())
+}
+
+// Each piece so many times, one behind the other.
+fn repeated(alloc: Global, pieces: &[(usize, &str)]) -> Result<Vec<u8>, Memory> {
+    let mut text = Vec::new(alloc);
+    for (count, piece) in pieces {
+        for _ in 0..*count {
+            text.extend_from_slice(piece.as_bytes())?;
+        }
+    }
+    Ok(text)
+}
+
+#[test]
+fn texts_past_a_limit_of_the_grammar_are_listed(rt: HostRuntime) -> Result<(), Fail> {
+    let alloc = rt.alloc();
+    for (pieces, written) in openers::LIMITS {
+        let text = repeated(alloc, pieces)?;
+        let called = answered(alloc, "list", text.as_slice())?;
+        assert_eq!(rt; called.status, Status::Done);
+        assert_eq!(rt; called.written.get(), written.as_bytes(), "{pieces:?}");
     }
     Ok(())
 }

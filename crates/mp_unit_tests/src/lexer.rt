@@ -1,5 +1,6 @@
-use super::*;
+use mp_ast::TokenKind;
 use mp_base::SCRIPT_LIMIT;
+use mp_lex::lex;
 use std::alloc::Global;
 use std::fmt::Write;
 use std::test::Fail;

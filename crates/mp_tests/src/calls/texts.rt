@@ -3,7 +3,7 @@
 // is explained: `program ` has 8 bytes, `program p; ` 11, `program p; begin ` 17 and `program p; begin end.` 21.
 // Texts at the limits are too long to stand here: they are in limits.rt.
 
-use crate::tests::Row;
+use super::Row;
 
 /// Programs of this stage; programs that are no such, and the first token that departs from `program`, an identifier,
 /// `;`, `begin`, `end`, `.`; and the first token with which no program begins.

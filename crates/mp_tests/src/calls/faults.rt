@@ -1,6 +1,6 @@
 // Reads and writes that fail, worked out by hand: how a call ends, what it writes and how many bytes it takes.
 
-use crate::Status;
+use mp_cli::Status;
 
 /// The numbers of the reads and of the writes that fail, and then the status, what is written, and how many bytes are
 /// taken.

@@ -2,11 +2,11 @@
 // line of `procedure q; forward;` declares one procedure.
 
 /// How often each piece stands, one behind the other, and the listing of the text.
-pub(crate) type Long = (&'static [(usize, &'static str)], &'static str);
+pub(crate) type Repeated = (&'static [(usize, &'static str)], &'static str);
 
 /// Openers, blocks and declarations, each up to its limit and one past it.
 #[rattlefmt::skip]
-pub(crate) const LIMITS: &[Long] = &[
+pub(crate) const LIMITS: &[Repeated] = &[
     // 128 and 129 openers of a block: 11 bytes stand before the first `begin`, and each has 6
     (&[(1, "program p; "), (128, "begin "), (128, " end"), (1, ".\n")], "not built at 1:18\n"),
     (&[(1, "program p; "), (129, "begin "), (129, " end"), (1, ".\n")], "1:780 203 nested too deep\n"),

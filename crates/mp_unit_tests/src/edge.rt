@@ -1,9 +1,9 @@
 // What no clause says: that the calls succeed with ample memory, and what the adapters make of real readers and
 // writers and of failing ones.
-use crate::{
+use mp_base::Bytes;
+use mp_edge::{
     Got, MemSink, MemSource, Put, Sink, Source, StdSink, StdSource, WriteFailed, write_all,
 };
-use mp_base::Bytes;
 use std::io::{self, ErrorKind, Read, Write};
 use std::test::Fail;
 

@@ -1,7 +1,7 @@
 // Texts and scripts at their limits and what is written for them, worked out by hand. 64 lines of 4,095 bytes, each
 // ended, are 262,144 bytes; 64 lines of 4,096 bytes are 262,208.
 
-use crate::Status;
+use mp_cli::Status;
 
 /// Bytes too many to be written out, and what is written for them: what stands at the front; then lines of spaces, so
 /// many of so many bytes, parted by line ends; and what stands at the end.

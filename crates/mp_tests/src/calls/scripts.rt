@@ -2,7 +2,7 @@
 // taken from a program's output. The comment above a row, or above rows of one kind, says the rule that they show.
 // Scripts at the limits are too long to stand here: they are in limits.rt.
 
-use crate::tests::Row;
+use super::Row;
 
 /// Lines of a script: words between spaces and tabs; a byte 13 at the end of a command line is dropped once.
 const LINES: &[Row] = &[

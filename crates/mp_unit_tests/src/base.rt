@@ -1,4 +1,4 @@
-use crate::{At, Bytes, Name, Path, Positions, TextLine, TextLines, end_last_line};
+use mp_base::{At, Bytes, Name, Path, Positions, TextLine, TextLines, end_last_line};
 use std::collections::HashMap;
 use std::test::Fail;
 

@@ -2,8 +2,8 @@
 ghost use Rattle.std.specs.Prelude.{◌≡◌, ◌==◌, ◌≤◌, IfOk, filter, length, not};
 ghost use Rattle.mp_text.specs.Edits.{new_lines};
 
-use crate::{Edit, TextError, Texts};
 use mp_base::{At, TextLine, TextLines, Version};
+use mp_text::{Edit, TextError, Texts};
 use std::alloc::{AllocError, Global};
 use std::test::Fail;
 
