@@ -9,7 +9,8 @@ use mp_ast::{LexError, LexErrors, Lexed, Token, Tokens};
 use mp_base::{Memory, SCRIPT_LIMIT};
 use std::alloc::Global;
 
-// Most programs have fewer tokens than one for so many bytes, so that their list need not grow.
+// A text with fewer tokens than one for so many bytes has a list that need not grow. The ordinary texts of bench/list have
+// one for 5 bytes.
 const BYTES_A_TOKEN: usize = 4;
 
 // Adds what an item means.

@@ -194,8 +194,8 @@ pub(crate) fn reply(alloc: Global, state: &mut State, command: Command) -> Resul
 }
 
 /// What is written where the listing of a text, whose last line is ended, is asked for outside a session: its
-/// listing, or the line of the refusal where it breaks a limit. It is for a program that ends then: the memory of what
-/// the listing was made from is left to the system.
+/// listing, or the line of the refusal where it breaks a limit. It is for a program that ends then: where the text is a
+/// program, the memory of its tokens and of its tree is left to the system.
 pub fn list_transcript(alloc: Global, text: &[u8]) -> Result<Bytes, Memory>
     requires few { length text.now ≤ SCRIPT_LIMIT }
     requires ended { text.now ≡ bytes_of (lines_of text.now) }
