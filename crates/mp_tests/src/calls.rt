@@ -59,7 +59,12 @@ fn answered(alloc: Global, words: &str, bytes: &[u8]) -> Result<Outcome, Fail> {
 /// A text or a script, and what is written for it.
 pub(crate) type Row = (&'static [u8], &'static str);
 
-fn are_answered(rt: &impl Abort, alloc: Global, words: &str, rows: &[Row]) -> Result<(), Fail> {
+fn are_answered(
+    rt: &impl Abort,
+    alloc: Global,
+    words: &str,
+    rows: &[(&[u8], &str)],
+) -> Result<(), Fail> {
     for (bytes, written) in rows {
         let called = answered(alloc, words, bytes)?;
         assert_eq!(rt; called.status, Status::Done);
@@ -73,6 +78,11 @@ fn small_texts_have_their_listings(rt: HostRuntime) -> Result<(), Fail> {
     for table in texts::TABLES {
         are_answered(&rt, rt.alloc(), "list", table)?;
     }
+    Ok(())
+}
+
+#[test]
+fn the_first_syntax_error_is_listed_alone(rt: HostRuntime) -> Result<(), Fail> {
     for table in syntax::TABLES {
         are_answered(&rt, rt.alloc(), "list", table)?;
     }
@@ -119,9 +129,7 @@ fn texts_past_a_limit_of_the_grammar_are_listed(rt: HostRuntime) -> Result<(), F
     let alloc = rt.alloc();
     for (pieces, written) in openers::LIMITS {
         let text = repeated(alloc, pieces)?;
-        let called = answered(alloc, "list", text.as_slice())?;
-        assert_eq!(rt; called.status, Status::Done);
-        assert_eq!(rt; called.written.get(), written.as_bytes(), "{pieces:?}");
+        are_answered(&rt, alloc, "list", &[(text.as_slice(), *written)])?;
     }
     Ok(())
 }

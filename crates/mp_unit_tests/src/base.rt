@@ -1,37 +1,48 @@
-use mp_base::{At, Bytes, Name, Path, Positions, TextLine, TextLines, end_last_line};
+ghost use Rattle.mp_base.specs.Name.{IsWord};
+
+use mp_base::{At, Bytes, Memory, Name, Path, Positions, TextLine, TextLines, end_last_line};
+use std::alloc::Global;
 use std::collections::HashMap;
 use std::test::Fail;
+
+// Whether a name is that of `MaxInt`, and what a map finds by it that has 7 by a copy of that name.
+fn beside_maxint(alloc: Global, spelling: &[u8]) -> Result<(bool, Option<u8>), Fail>
+    requires { IsWord spelling.now }
+{
+    let name = Name::new(alloc, spelling)?;
+    let key = Name::new(alloc, b"MaxInt")?.copy()?;
+    let is_same = key.same(&name);
+    let mut places = HashMap::new(alloc);
+    places.insert(key, 7u8)?;
+    Ok((is_same, places.get(&name).copied()))
+}
 
 #[test]
 fn names_are_spelled_in_lower_case_and_are_keys(rt: HostRuntime) -> Result<(), Fail> {
     let alloc = rt.alloc();
-    let upper = Name::new(alloc, b"MaxInt")?;
-    let lower = Name::new(alloc, b"maxint")?;
-    let other = Name::new(alloc, b"maxint1")?;
-    assert_eq!(rt; upper.get(), b"maxint".as_slice());
-    assert!(rt; upper.same(&lower));
-    assert!(rt; !upper.same(&other));
-    let mut places = HashMap::new(alloc);
-    places.insert(upper.copy()?, 7u8)?;
-    assert_eq!(rt; places.get(&lower).copied(), Some(7));
-    assert_eq!(rt; places.get(&other).copied(), None);
+    assert_eq!(rt; Name::new(alloc, b"MaxInt")?.get(), b"maxint".as_slice());
+    assert_eq!(rt; beside_maxint(alloc, b"maxint")?, (true, Some(7)));
+    assert_eq!(rt; beside_maxint(alloc, b"maxint1")?, (false, None));
     Ok(())
+}
+
+// The path of the second `R` in a block.
+fn inner(outer: &Path, alloc: Global) -> Result<Path, Memory> {
+    outer.child(&Name::new(alloc, b"R")?, 2)?.copy()
+}
+
+// The path of the first `q`.
+fn outer(alloc: Global) -> Result<Path, Memory> {
+    Path::top(alloc)?.child(&Name::new(alloc, b"q")?, 1)
 }
 
 #[test]
 fn paths_grow_by_a_step(rt: HostRuntime) -> Result<(), Fail> {
     let alloc = rt.alloc();
-    let outer = Path::top(alloc)?.child(&Name::new(alloc, b"q")?, 1)?;
-    let inner = outer.child(&Name::new(alloc, b"R")?, 2)?.copy()?;
-    assert_eq!(rt; outer.steps().len(), 1);
-    match inner.steps() {
-        [first, second] => {
-            assert_eq!(rt; first.name.get(), b"q".as_slice());
-            assert_eq!(rt; first.nth, 1);
-            assert_eq!(rt; second.name.get(), b"r".as_slice());
-            assert_eq!(rt; second.nth, 2);
-        }
-        _ => assert!(rt; false, "two steps"),
+    let path = inner(&outer(alloc)?, alloc)?;
+    assert_eq!(rt; path.steps().len(), 2);
+    for (step, (name, nth)) in path.steps().iter().zip([("q", 1), ("r", 2)]) {
+        assert_eq!(rt; (step.name.get(), step.nth), (name.as_bytes(), nth));
     }
     Ok(())
 }
@@ -50,6 +61,12 @@ fn lines_are_ended_once(rt: HostRuntime) -> Result<(), Fail> {
         end_last_line(&mut bytes)?;
         assert_eq!(rt; bytes.as_slice(), want.as_bytes(), "{text:?}");
     }
+    Ok(())
+}
+
+#[test]
+fn lines_and_bytes_are_what_they_are_made_of(rt: HostRuntime) -> Result<(), Fail> {
+    let alloc = rt.alloc();
     let mut lines = TextLines::new(alloc);
     lines.push(TextLine::of(alloc, b"begin")?)?;
     assert_eq!(rt; lines.get().len(), 1);

@@ -69,8 +69,12 @@ fn pieces_are_given_one_after_another(rt: HostRuntime) -> Result<(), Fail> {
         (5, Got::End, "ed"),
         (6, Got::End, "ed"),
     ] {
-        assert_eq!(rt; source.read(&mut buf), want, "read {read}");
-        assert_eq!(rt; buf.as_slice(), bytes.as_bytes(), "read {read}");
+        let got = source.read(&mut buf);
+        assert_eq!(rt;
+            (got, buf.as_slice()),
+            (want, bytes.as_bytes()),
+            "read {read}"
+        );
     }
     Ok(())
 }
@@ -121,12 +125,8 @@ fn interrupted_reads_are_tried_again(rt: HostRuntime) {
             bytes,
         };
         let mut buf = [0u8; 4];
-        assert_eq!(rt;
-            StdSource::new(&mut reader).read(&mut buf),
-            want,
-            "{failing} failing"
-        );
-        assert_eq!(rt; reader.calls, calls, "{failing} failing");
+        let got = StdSource::new(&mut reader).read(&mut buf);
+        assert_eq!(rt; (got, reader.calls), (want, calls), "{failing} failing");
     }
 }
 
@@ -145,15 +145,11 @@ fn all_bytes_are_written(rt: HostRuntime) {
             calls: 0,
             bytes,
         };
+        let made = write_all(&mut StdSink::new(&mut writer), b"abc");
+        let found = (made, writer.calls, writer.bytes.as_slice());
         assert_eq!(rt;
-            write_all(&mut StdSink::new(&mut writer), b"abc"),
-            want,
-            "{failing} failing"
-        );
-        assert_eq!(rt; writer.calls, calls, "{failing} failing");
-        assert_eq!(rt;
-            writer.bytes.as_slice(),
-            written.as_bytes(),
+            found,
+            (want, calls, written.as_bytes()),
             "{failing} failing"
         );
     }

@@ -3,6 +3,7 @@ use mp_base::SCRIPT_LIMIT;
 use mp_lex::lex;
 use std::alloc::Global;
 use std::fmt::Write;
+use std::process::Abort;
 use std::test::Fail;
 
 // The spelling, value or name of a token.
@@ -39,6 +40,13 @@ fn listed(alloc: Global, text: &[u8]) -> Result<String, Fail> {
     Ok(out)
 }
 
+fn are_listed(rt: &impl Abort, alloc: Global, rows: &[(&str, &str)]) -> Result<(), Fail> {
+    for (text, want) in rows {
+        assert_eq!(rt; listed(alloc, text.as_bytes())?.as_str(), *want);
+    }
+    Ok(())
+}
+
 #[test]
 fn each_class_of_tokens_is_read(rt: HostRuntime) -> Result<(), Fail> {
     let text = b"PROGRAM P1;{c}12 'it''s' <=(*{*)@(..)\t2147483647";
@@ -59,15 +67,16 @@ fn each_error_is_read(rt: HostRuntime) -> Result<(), Fail> {
 
 #[test]
 fn an_item_ends_where_no_longer_one_stands(rt: HostRuntime) -> Result<(), Fail> {
-    let alloc = rt.alloc();
-    assert_eq!(rt; listed(alloc, b"1.5x")?.as_str(), "x@3+1 106@0+3 ");
-    assert_eq!(rt; listed(alloc, b"1e5x")?.as_str(), "x@3+1 106@0+3 ");
-    assert_eq!(rt; listed(alloc, b"1ex")?.as_str(), "105@0+3 ");
-    assert_eq!(rt; listed(alloc, b"1..2")?.as_str(), "1@0+1 DotDot@1+2 2@3+1 ");
-    assert_eq!(rt; listed(alloc, b"1.)")?.as_str(), "1@0+1 RightBracket@1+2 ");
-    assert_eq!(rt; listed(alloc, b"(*)")?.as_str(), "102@0+3 ");
-    assert_eq!(rt; listed(alloc, b"(..")?.as_str(), "LeftBracket@0+2 Dot@2+1 ");
-    assert_eq!(rt; listed(alloc, b"'''")?.as_str(), "103@0+3 ");
-    assert_eq!(rt; listed(alloc, b"")?.as_str(), "");
-    Ok(())
+    let rows = [
+        ("1.5x", "x@3+1 106@0+3 "),
+        ("1e5x", "x@3+1 106@0+3 "),
+        ("1ex", "105@0+3 "),
+        ("1..2", "1@0+1 DotDot@1+2 2@3+1 "),
+        ("1.)", "1@0+1 RightBracket@1+2 "),
+        ("(*)", "102@0+3 "),
+        ("(..", "LeftBracket@0+2 Dot@2+1 "),
+        ("'''", "103@0+3 "),
+        ("", ""),
+    ];
+    are_listed(&rt, rt.alloc(), &rows)
 }

@@ -270,13 +270,11 @@ fn a_line_has_at_most_255_bytes(rt: HostRuntime) -> Result<(), Fail> {
     Ok(())
 }
 
-#[test]
-fn a_command_takes_lines_with_their_byte_13(rt: HostRuntime) -> Result<(), Fail> {
-    let alloc = rt.alloc();
-    let mut out = String::new(alloc);
+// The first command of a script, with the lines that it takes.
+fn first_command(alloc: Global, script: &[u8]) -> Result<Option<Command>, Fail> {
     let mut lines = Lines::new(alloc);
     let mut open = None;
-    for line in lines.feed(b"insert 0 2\na\r\n\n")?.into_vec() {
+    for line in lines.feed(script)?.into_vec() {
         match open.take() {
             None => open = command(alloc, &line).ok(),
             Some(command) => {
@@ -288,7 +286,14 @@ fn a_command_takes_lines_with_their_byte_13(rt: HostRuntime) -> Result<(), Fail>
             }
         }
     }
-    if let Some(command) = open {
+    Ok(open)
+}
+
+#[test]
+fn a_command_takes_lines_with_their_byte_13(rt: HostRuntime) -> Result<(), Fail> {
+    let alloc = rt.alloc();
+    let mut out = String::new(alloc);
+    if let Some(command) = first_command(alloc, b"insert 0 2\na\r\n\n")? {
         write_command(&mut out, &command)?;
     }
     assert_eq!(rt; out.as_str(), "insert 0 2, wants 2, has a\r, has ");
