@@ -36,7 +36,7 @@ pub struct TypeDefinition {
 }
 
 /// What follows a heading: a block, whose tree stands beside this one, or `forward` with its ordinal.
-#[derive(Clone, Copy, Debug, PartialEq, Eq)]
+#[derive(Clone, Copy)]
 pub enum DeclaredBody {
     Block,
     Forward(u32),

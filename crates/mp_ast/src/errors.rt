@@ -5,7 +5,7 @@ use std::alloc::Global;
 use std::marker::Model;
 
 /// A lexical error: an item of the text that is neither a separator nor a token of ISO 7185, 6.1.
-#[derive(Clone, Copy, Debug, PartialEq, Eq)]
+#[derive(Clone, Copy)]
 pub struct LexError {
     /// The byte of the text at which the item starts, from 0.
     pub start: u32,
@@ -16,7 +16,7 @@ pub struct LexError {
 }
 
 /// A list of lexical errors, in the order of the text.
-#[derive(Debug, Drop)]
+#[derive(Drop)]
 pub struct LexErrors {
     items: Vec<LexError>,
 }

@@ -2,7 +2,7 @@ use crate::leaves::{CharacterString, Identifier, Number, Sign};
 use sqlite_items::{Boxed, Items};
 
 /// An operator between two operands (ISO 7185, 6.7.2).
-#[derive(Clone, Copy, Debug, PartialEq, Eq)]
+#[derive(Clone, Copy)]
 pub enum Operator {
     Equal,
     NotEqual,

@@ -1,7 +1,7 @@
 use mp_base::{Bytes, Name};
 
 /// An identifier where it stands (ISO 7185, 6.1.3).
-#[derive(Debug, Drop)]
+#[derive(Drop)]
 pub struct Identifier {
     /// The ordinal of the identifier's token among its block's own tokens, from 0.
     pub at: u32,
@@ -9,7 +9,7 @@ pub struct Identifier {
 }
 
 /// An unsigned integer, or a label, where it stands (ISO 7185, 6.1.5, 6.1.6).
-#[derive(Clone, Copy, Debug, PartialEq, Eq)]
+#[derive(Clone, Copy)]
 pub struct Number {
     /// The ordinal of the number's token.
     pub at: u32,
@@ -17,7 +17,7 @@ pub struct Number {
 }
 
 /// A character-string where it stands (ISO 7185, 6.1.7).
-#[derive(Debug, Drop)]
+#[derive(Drop)]
 pub struct CharacterString {
     /// The ordinal of the string's token.
     pub at: u32,
@@ -26,14 +26,14 @@ pub struct CharacterString {
 }
 
 /// Which sign stands before a term or a constant (ISO 7185, 6.1.5).
-#[derive(Clone, Copy, Debug, PartialEq, Eq)]
+#[derive(Clone, Copy)]
 pub enum SignKind {
     Plus,
     Minus,
 }
 
 /// A sign where it stands.
-#[derive(Clone, Copy, Debug, PartialEq, Eq)]
+#[derive(Clone, Copy)]
 pub struct Sign {
     /// The ordinal of the sign's token.
     pub at: u32,
@@ -41,7 +41,7 @@ pub struct Sign {
 }
 
 /// A constant (ISO 7185, 6.3). Its first token is its sign, where it has one.
-#[derive(Debug, Drop)]
+#[derive(Drop)]
 pub enum Constant {
     Number(Option<Sign>, Number),
     Name(Option<Sign>, Identifier),

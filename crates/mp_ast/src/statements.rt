@@ -3,7 +3,7 @@ use crate::leaves::{Constant, Identifier, Number};
 use sqlite_items::{Boxed, Items};
 
 /// Which way a `for` statement counts (ISO 7185, 6.8.3.9).
-#[derive(Clone, Copy, Debug, PartialEq, Eq)]
+#[derive(Clone, Copy)]
 pub enum Direction {
     To,
     Downto,

@@ -7,7 +7,7 @@ use std::alloc::Global;
 use std::marker::Model;
 
 /// What a token is (ISO 7185, 6.1).
-#[derive(Debug, Drop)]
+#[derive(Drop)]
 pub enum TokenKind {
     /// An identifier or a directive, in lower case (6.1.3, 6.1.4).
     Id(Name),
@@ -23,7 +23,7 @@ pub enum TokenKind {
 }
 
 /// A token with its place in the text.
-#[derive(Debug, Drop)]
+#[derive(Drop)]
 pub struct Token {
     pub kind: TokenKind,
     /// The byte of the text at which the token starts, from 0.
@@ -33,7 +33,7 @@ pub struct Token {
 }
 
 /// A list of tokens, in the order of the text.
-#[derive(Debug, Drop)]
+#[derive(Drop)]
 pub struct Tokens {
     items: Vec<Token>,
 }

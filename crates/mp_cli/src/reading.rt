@@ -8,7 +8,7 @@ use mp_base::SCRIPT_LIMIT;
 use mp_edge::{Got, Source};
 
 /// Why the reading of a text ended.
-#[derive(Clone, Copy, Debug, PartialEq, Eq)]
+#[derive(Clone, Copy)]
 pub(crate) enum Ending {
     /// Nothing is left.
     End,

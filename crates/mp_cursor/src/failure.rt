@@ -2,7 +2,7 @@ use mp_base::Memory;
 use std::alloc::AllocError;
 
 /// Why there is no tree. A place is told by how many tokens there are from it on.
-#[derive(Clone, Copy, Debug, PartialEq, Eq)]
+#[derive(Clone, Copy)]
 pub enum Failure {
     Memory,
     /// The token there is none that may stand there.

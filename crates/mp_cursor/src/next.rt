@@ -4,7 +4,7 @@ ghost use Rattle.mp_cursor.specs.Nexts.{class_of, is};
 use mp_ast::{Symbol, TokenKind, WordSymbol};
 
 /// What the next token is, whatever name, number or string it holds.
-#[derive(Clone, Copy, Debug, PartialEq, Eq)]
+#[derive(Clone, Copy, PartialEq, Eq)]
 pub enum Next {
     Identifier,
     Number,

@@ -8,7 +8,7 @@ use mp_base::{At, Memory, Positions};
 use std::alloc::Global;
 
 /// An error as a listing shows it.
-#[derive(Clone, Copy, Debug, PartialEq, Eq)]
+#[derive(Clone, Copy)]
 pub struct Shown {
     /// Where the error stands.
     pub at: At,

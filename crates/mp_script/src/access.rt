@@ -7,7 +7,7 @@ use mp_lex::lex;
 use std::alloc::Global;
 
 /// What a token is in an access.
-#[derive(Clone, Copy, Debug, PartialEq, Eq)]
+#[derive(Clone, Copy)]
 pub enum Part {
     Name,
     Number,
@@ -27,7 +27,7 @@ pub enum Part {
 }
 
 /// What may come next in an access.
-#[derive(Clone, Copy, Debug, PartialEq, Eq)]
+#[derive(Clone, Copy)]
 pub enum Stage {
     /// The name that an access begins with.
     Start,

@@ -4,7 +4,7 @@ use mp_base::{Bytes, Memory, TextLine, TextLines};
 use thiserror::Error;
 
 /// What a command does, with its numbers; a number that was left out is None.
-#[derive(Debug, Drop)]
+#[derive(Drop)]
 pub enum Verb {
     /// A line without a word.
     Nothing,
@@ -47,7 +47,7 @@ pub enum Verb {
 }
 
 /// A command, and those of the lines it takes that it was given so far.
-#[derive(Debug, Drop)]
+#[derive(Drop)]
 pub struct Command {
     pub verb: Verb,
     /// How many lines the command takes from those that follow it.

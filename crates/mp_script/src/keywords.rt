@@ -2,7 +2,7 @@ ghost use Rattle.std.specs.Prelude.{◌≡◌};
 ghost use Rattle.mp_script.specs.Keywords.{keyword_of, keywords, spelling};
 
 /// The first word of a command, which says what the command does.
-#[derive(Clone, Copy, Debug, PartialEq, Eq)]
+#[derive(Clone, Copy)]
 pub enum Keyword {
     Insert,
     Delete,

@@ -4,7 +4,7 @@ ghost use Rattle.mp_session.specs.Departure.{is_of, departure, empty_program};
 use mp_ast::{Symbol, Token, TokenKind, WordSymbol};
 
 /// A token of the empty program, `program` identifier `;` `begin` `end` `.`.
-#[derive(Clone, Copy, Debug, PartialEq, Eq)]
+#[derive(Clone, Copy)]
 pub enum Part {
     Program,
     Identifier,

@@ -18,7 +18,7 @@ use std::alloc::Global;
 use std::mem::forget;
 
 /// What becomes of the program when it has written a listing.
-#[derive(Debug, Clone, Copy, PartialEq, Eq)]
+#[derive(Clone, Copy)]
 pub(crate) enum Afterwards {
     /// It goes on: what the listing was made from is freed.
     GoesOn,

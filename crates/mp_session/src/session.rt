@@ -16,7 +16,7 @@ use std::marker::Model;
 use thiserror::Error;
 
 /// Whether a session goes on after a command.
-#[derive(Clone, Copy, Debug, PartialEq, Eq)]
+#[derive(Clone, Copy)]
 pub enum Turn {
     /// The session goes on.
     On,

@@ -1,7 +1,7 @@
 use mp_base::{TextLine, TextLines};
 
 /// An edit of a text. Lines and columns count from 1; a column is a byte.
-#[derive(Debug, Drop)]
+#[derive(Drop)]
 pub enum Edit {
     /// Puts lines after a line, or before the first one where `after` is 0.
     Insert {
