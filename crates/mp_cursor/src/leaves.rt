@@ -72,19 +72,7 @@ pub fn constant(alloc: Global, tokens: &mut Cursor<'_>) -> Result<Constant, Fail
     }
 }
 
-// One more name behind a comma.
-fn further_identifier(
-    tokens: &mut Cursor<'_>,
-    mut found: Items<Identifier>,
-) -> Result<Items<Identifier>, Failure>
-    ensures { Reads (spec.further_identifier found tokens.old) result tokens.new }
-{
-    tokens.expect(Next::Symbol(Symbol::Comma))?;
-    found.push(tokens.identifier()?)?;
-    Ok(found)
-}
-
-#[tactic(auto, using(crate::proofs::LoopLemmas::loop_more, crate::proofs::LoopLemmas::loop_done), unfolding(crate::specs::Parsers::repeated))]
+#[tactic(auto, using(crate::proofs::LoopLemmas::loop_more, crate::proofs::LoopLemmas::loop_done), unfolding(crate::specs::Parsers::repeated, crate::specs::Leaves::further_identifier))]
 fn further_identifiers(
     tokens: &mut Cursor<'_>,
     first: Items<Identifier>,
@@ -96,7 +84,8 @@ fn further_identifiers(
         if !tokens.sees(Next::Symbol(Symbol::Comma)) {
             return Ok(found);
         }
-        found = further_identifier(tokens, found)?;
+        tokens.expect(Next::Symbol(Symbol::Comma))?;
+        found.push(tokens.identifier()?)?;
     }
     Ok(found)
 }
@@ -110,20 +99,7 @@ pub fn identifiers(alloc: Global, tokens: &mut Cursor<'_>) -> Result<Items<Ident
     further_identifiers(tokens, found)
 }
 
-// One more constant behind a comma.
-fn further_constant(
-    alloc: Global,
-    tokens: &mut Cursor<'_>,
-    mut found: Items<Constant>,
-) -> Result<Items<Constant>, Failure>
-    ensures { Reads (spec.further_constant found tokens.old) result tokens.new }
-{
-    tokens.expect(Next::Symbol(Symbol::Comma))?;
-    found.push(constant(alloc, tokens)?)?;
-    Ok(found)
-}
-
-#[tactic(auto, using(crate::proofs::LoopLemmas::loop_more, crate::proofs::LoopLemmas::loop_done), unfolding(crate::specs::Parsers::repeated))]
+#[tactic(auto, using(crate::proofs::LoopLemmas::loop_more, crate::proofs::LoopLemmas::loop_done), unfolding(crate::specs::Parsers::repeated, crate::specs::Leaves::further_constant))]
 fn further_constants(
     alloc: Global,
     tokens: &mut Cursor<'_>,
@@ -136,7 +112,8 @@ fn further_constants(
         if !tokens.sees(Next::Symbol(Symbol::Comma)) {
             return Ok(found);
         }
-        found = further_constant(alloc, tokens, found)?;
+        tokens.expect(Next::Symbol(Symbol::Comma))?;
+        found.push(constant(alloc, tokens)?)?;
     }
     Ok(found)
 }

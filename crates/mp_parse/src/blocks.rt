@@ -11,7 +11,7 @@ use mp_ast::{
 use mp_base::{DEPTH_LIMIT, OPENER_LIMIT, TEXT_LIMIT};
 use mp_cursor::{Cursor, Failure, Next, identifiers, single};
 use mp_parse_type::heading;
-use sqlite_items::Items;
+use sqlite_items::{Boxed, Items};
 use std::alloc::Global;
 
 // In these functions `depth` is how many more blocks may stand in one another.
@@ -65,12 +65,12 @@ fn declaration(alloc: Global, tokens: &mut Cursor<'_>, depth: usize) -> Result<D
     ensures { Reads (spec.declaration standard (spec.nested_block standard depth) tokens.old) result tokens.new }
 {
     tokens.declare()?;
-    let heading = heading(alloc, tokens, OPENER_LIMIT)?;
+    let heading = Boxed::new(alloc, heading(alloc, tokens, OPENER_LIMIT)?)?;
     let semicolon = tokens.expect(Next::Symbol(Symbol::Semicolon))?;
     let (body, block) = declared_body(alloc, tokens, depth)?;
     tokens.expect(Next::Symbol(Symbol::Semicolon))?;
     let declaration = Declaration {
-        heading,
+        heading: heading.into_inner(),
         semicolon,
         body,
     };
@@ -210,8 +210,10 @@ pub fn program(alloc: Global, tokens: &mut Cursor<'_>) -> Result<Tree, Failure>
     ensures { Reads (spec.program standard tokens.old) result tokens.new }
 {
     let heading = program_heading(alloc, tokens)?;
-    let (mut own, inside) = block(alloc, tokens, Some(heading), DEPTH)?;
+    let (own, inside) = block(alloc, tokens, Some(heading), DEPTH)?;
+    let own = Boxed::new(alloc, own)?;
     tokens.expect(Next::Symbol(Symbol::Dot))?;
+    let mut own = own.into_inner();
     own.tokens = tokens.at();
     Ok(Tree {
         own: BlockTree::new(alloc, own)?,

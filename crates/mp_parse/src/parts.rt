@@ -14,20 +14,7 @@ use std::alloc::Global;
 
 // ---- labels
 
-#[tactic(auto, unfolding(crate::specs::Blocks::further_label))]
-fn further_label(
-    tokens: &mut Cursor<'_>,
-    mut found: Items<Number>,
-) -> Result<Items<Number>, Failure>
-    ensures { Reads (spec.further_label found tokens.old) result tokens.new }
-{
-    tokens.expect(Next::Symbol(Symbol::Comma))?;
-    let more = tokens.number()?;
-    found.push(more)?;
-    Ok(found)
-}
-
-#[tactic(auto, using(mp_cursor::proofs::LoopLemmas::loop_more, mp_cursor::proofs::LoopLemmas::loop_done), unfolding(mp_cursor::specs::Parsers::repeated))]
+#[tactic(auto, using(mp_cursor::proofs::LoopLemmas::loop_more, mp_cursor::proofs::LoopLemmas::loop_done), unfolding(mp_cursor::specs::Parsers::repeated, crate::specs::Blocks::further_label))]
 fn further_labels(tokens: &mut Cursor<'_>, first: Items<Number>) -> Result<Items<Number>, Failure>
     ensures { Reads (spec.further_labels first tokens.old) result tokens.new }
 {
@@ -36,7 +23,8 @@ fn further_labels(tokens: &mut Cursor<'_>, first: Items<Number>) -> Result<Items
         if !tokens.sees(Next::Symbol(Symbol::Comma)) {
             return Ok(found);
         }
-        found = further_label(tokens, found)?;
+        tokens.expect(Next::Symbol(Symbol::Comma))?;
+        found.push(tokens.number()?)?;
     }
     Ok(found)
 }
@@ -91,20 +79,7 @@ fn constant_definition(
     })
 }
 
-#[tactic(auto, unfolding(crate::specs::Blocks::further_constant))]
-fn further_constant(
-    alloc: Global,
-    tokens: &mut Cursor<'_>,
-    mut found: Items<ConstantDefinition>,
-) -> Result<Items<ConstantDefinition>, Failure>
-    ensures { Reads (spec.further_constant found tokens.old) result tokens.new }
-{
-    let more = constant_definition(alloc, tokens)?;
-    found.push(more)?;
-    Ok(found)
-}
-
-#[tactic(auto, using(mp_cursor::proofs::LoopLemmas::loop_more, mp_cursor::proofs::LoopLemmas::loop_done), unfolding(mp_cursor::specs::Parsers::repeated))]
+#[tactic(auto, using(mp_cursor::proofs::LoopLemmas::loop_more, mp_cursor::proofs::LoopLemmas::loop_done), unfolding(mp_cursor::specs::Parsers::repeated, crate::specs::Blocks::further_constant))]
 fn further_constants(
     alloc: Global,
     tokens: &mut Cursor<'_>,
@@ -117,25 +92,13 @@ fn further_constants(
         if !tokens.sees(Next::Identifier) {
             return Ok(found);
         }
-        found = further_constant(alloc, tokens, found)?;
+        found.push(constant_definition(alloc, tokens)?)?;
     }
     Ok(found)
 }
 
-#[tactic(auto, unfolding(crate::specs::Blocks::some_constants))]
-fn some_constants(
-    alloc: Global,
-    tokens: &mut Cursor<'_>,
-) -> Result<Items<ConstantDefinition>, Failure>
-    ensures { Reads (spec.some_constants tokens.old) result tokens.new }
-{
-    let first = constant_definition(alloc, tokens)?;
-    let found = single(alloc, first)?;
-    further_constants(alloc, tokens, found)
-}
-
 /// The definitions of a constant definition part, where there is one (ISO 7185, 6.3).
-#[tactic(auto, unfolding(crate::specs::Blocks::constants))]
+#[tactic(auto, unfolding(crate::specs::Blocks::constants, crate::specs::Blocks::some_constants))]
 pub fn constants(
     alloc: Global,
     tokens: &mut Cursor<'_>,
@@ -146,7 +109,9 @@ pub fn constants(
         return Ok(Items::new(alloc));
     }
     tokens.expect(Next::Word(WordSymbol::Const))?;
-    some_constants(alloc, tokens)
+    let first = constant_definition(alloc, tokens)?;
+    let found = single(alloc, first)?;
+    further_constants(alloc, tokens, found)
 }
 
 // ---- types
@@ -166,20 +131,7 @@ fn type_definition(alloc: Global, tokens: &mut Cursor<'_>) -> Result<TypeDefinit
     })
 }
 
-#[tactic(auto, unfolding(crate::specs::Blocks::further_type))]
-fn further_type(
-    alloc: Global,
-    tokens: &mut Cursor<'_>,
-    mut found: Items<TypeDefinition>,
-) -> Result<Items<TypeDefinition>, Failure>
-    ensures { Reads (spec.further_type OPENER_LIMIT found tokens.old) result tokens.new }
-{
-    let more = type_definition(alloc, tokens)?;
-    found.push(more)?;
-    Ok(found)
-}
-
-#[tactic(auto, using(mp_cursor::proofs::LoopLemmas::loop_more, mp_cursor::proofs::LoopLemmas::loop_done), unfolding(mp_cursor::specs::Parsers::repeated))]
+#[tactic(auto, using(mp_cursor::proofs::LoopLemmas::loop_more, mp_cursor::proofs::LoopLemmas::loop_done), unfolding(mp_cursor::specs::Parsers::repeated, crate::specs::Blocks::further_type))]
 fn further_types(
     alloc: Global,
     tokens: &mut Cursor<'_>,
@@ -192,22 +144,13 @@ fn further_types(
         if !tokens.sees(Next::Identifier) {
             return Ok(found);
         }
-        found = further_type(alloc, tokens, found)?;
+        found.push(type_definition(alloc, tokens)?)?;
     }
     Ok(found)
 }
 
-#[tactic(auto, unfolding(crate::specs::Blocks::some_types))]
-fn some_types(alloc: Global, tokens: &mut Cursor<'_>) -> Result<Items<TypeDefinition>, Failure>
-    ensures { Reads (spec.some_types OPENER_LIMIT tokens.old) result tokens.new }
-{
-    let first = type_definition(alloc, tokens)?;
-    let found = single(alloc, first)?;
-    further_types(alloc, tokens, found)
-}
-
 /// The definitions of a type definition part, where there is one (ISO 7185, 6.4.1).
-#[tactic(auto, unfolding(crate::specs::Blocks::types))]
+#[tactic(auto, unfolding(crate::specs::Blocks::types, crate::specs::Blocks::some_types))]
 pub fn types(alloc: Global, tokens: &mut Cursor<'_>) -> Result<Items<TypeDefinition>, Failure>
     ensures { Reads (spec.types OPENER_LIMIT tokens.old) result tokens.new }
 {
@@ -215,7 +158,9 @@ pub fn types(alloc: Global, tokens: &mut Cursor<'_>) -> Result<Items<TypeDefinit
         return Ok(Items::new(alloc));
     }
     tokens.expect(Next::Word(WordSymbol::Type))?;
-    some_types(alloc, tokens)
+    let first = type_definition(alloc, tokens)?;
+    let found = single(alloc, first)?;
+    further_types(alloc, tokens, found)
 }
 
 // ---- variables
@@ -229,20 +174,7 @@ fn variable_section(alloc: Global, tokens: &mut Cursor<'_>) -> Result<Section<De
     Ok(found)
 }
 
-#[tactic(auto, unfolding(crate::specs::Blocks::further_section))]
-fn further_section(
-    alloc: Global,
-    tokens: &mut Cursor<'_>,
-    mut found: Items<Section<Denoter>>,
-) -> Result<Items<Section<Denoter>>, Failure>
-    ensures { Reads (spec.further_section OPENER_LIMIT found tokens.old) result tokens.new }
-{
-    let more = variable_section(alloc, tokens)?;
-    found.push(more)?;
-    Ok(found)
-}
-
-#[tactic(auto, using(mp_cursor::proofs::LoopLemmas::loop_more, mp_cursor::proofs::LoopLemmas::loop_done), unfolding(mp_cursor::specs::Parsers::repeated))]
+#[tactic(auto, using(mp_cursor::proofs::LoopLemmas::loop_more, mp_cursor::proofs::LoopLemmas::loop_done), unfolding(mp_cursor::specs::Parsers::repeated, crate::specs::Blocks::further_section))]
 fn further_sections(
     alloc: Global,
     tokens: &mut Cursor<'_>,
@@ -255,22 +187,13 @@ fn further_sections(
         if !tokens.sees(Next::Identifier) {
             return Ok(found);
         }
-        found = further_section(alloc, tokens, found)?;
+        found.push(variable_section(alloc, tokens)?)?;
     }
     Ok(found)
 }
 
-#[tactic(auto, unfolding(crate::specs::Blocks::some_sections))]
-fn some_sections(alloc: Global, tokens: &mut Cursor<'_>) -> Result<Items<Section<Denoter>>, Failure>
-    ensures { Reads (spec.some_sections OPENER_LIMIT tokens.old) result tokens.new }
-{
-    let first = variable_section(alloc, tokens)?;
-    let found = single(alloc, first)?;
-    further_sections(alloc, tokens, found)
-}
-
 /// The sections of a variable declaration part, where there is one (ISO 7185, 6.5.1).
-#[tactic(auto, unfolding(crate::specs::Blocks::variables))]
+#[tactic(auto, unfolding(crate::specs::Blocks::variables, crate::specs::Blocks::some_sections))]
 pub fn variables(alloc: Global, tokens: &mut Cursor<'_>) -> Result<Items<Section<Denoter>>, Failure>
     ensures { Reads (spec.variables OPENER_LIMIT tokens.old) result tokens.new }
 {
@@ -278,7 +201,9 @@ pub fn variables(alloc: Global, tokens: &mut Cursor<'_>) -> Result<Items<Section
         return Ok(Items::new(alloc));
     }
     tokens.expect(Next::Word(WordSymbol::Var))?;
-    some_sections(alloc, tokens)
+    let first = variable_section(alloc, tokens)?;
+    let found = single(alloc, first)?;
+    further_sections(alloc, tokens, found)
 }
 
 // ---- statements

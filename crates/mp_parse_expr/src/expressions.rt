@@ -1,7 +1,6 @@
-ghost use Rattle.std.specs.Prelude.{◌≡◌, ◌<◌, [], ◌∷◌, IfOk, IfErr};
+ghost use Rattle.std.specs.Prelude.{◌≡◌, ◌<◌, [], ◌∷◌};
 ghost use Rattle.mp_ast.specs.ExpressionGrammar as grammar;
 ghost use Rattle.mp_cursor.specs.Parsers.{Reads};
-ghost use Rattle.mp_cursor.specs.declared.failure.Failure.TheVariants as failure;
 ghost use Rattle.mp_parse_expr.specs.Operators as operators;
 ghost use Rattle.mp_parse_expr.specs.Expressions as spec;
 ghost use Rattle.mp_parse_expr.specs.Expressions.{behind};
@@ -20,24 +19,7 @@ use std::alloc::Global;
 // In these functions `room` is how many more openers may stand open. Each loop takes a token a turn.
 
 #[cycle(expressions)]
-#[tactic(auto, using(crate::proofs::RoomLemmas::behind_is), unfolding(crate::specs::Expressions::further_index))]
-fn further_index(
-    alloc: Global,
-    tokens: &mut Cursor<'_>,
-    room: usize,
-    mut found: Items<Selector<Expr>>,
-) -> Result<Items<Selector<Expr>>, Failure>
-    requires { 0 < room }
-    ensures { Reads (spec.further_index room (behind room) found tokens.old) result tokens.new }
-{
-    let at = tokens.expect(Next::Symbol(Symbol::Comma))?;
-    let index = expression(alloc, tokens, room - 1)?;
-    found.push(Selector::Index(at, index))?;
-    Ok(found)
-}
-
-#[cycle(expressions)]
-#[tactic(auto, using(mp_cursor::proofs::LoopLemmas::loop_more, mp_cursor::proofs::LoopLemmas::loop_done), unfolding(mp_cursor::specs::Parsers::repeated))]
+#[tactic(auto, using(crate::proofs::RoomLemmas::behind_is, mp_cursor::proofs::LoopLemmas::loop_more, mp_cursor::proofs::LoopLemmas::loop_done), unfolding(mp_cursor::specs::Parsers::repeated, crate::specs::Expressions::further_index))]
 fn further_indices(
     alloc: Global,
     tokens: &mut Cursor<'_>,
@@ -52,7 +34,9 @@ fn further_indices(
         if !tokens.sees(Next::Symbol(Symbol::Comma)) {
             return Ok(found);
         }
-        found = further_index(alloc, tokens, room, found)?;
+        let at = tokens.expect(Next::Symbol(Symbol::Comma))?;
+        let index = expression(alloc, tokens, room - 1)?;
+        found.push(Selector::Index(at, index))?;
     }
     Ok(found)
 }
@@ -122,25 +106,7 @@ fn selection(
 }
 
 #[cycle(expressions)]
-#[tactic(auto, unfolding(crate::specs::Expressions::further_selection))]
-fn further_selection(
-    alloc: Global,
-    tokens: &mut Cursor<'_>,
-    room: usize,
-    mut found: Items<Selector<Expr>>,
-) -> Result<Items<Selector<Expr>>, Failure>
-    ensures { Reads (spec.further_selection room (behind room) found tokens.old) result tokens.new }
-{
-    let more = selection(alloc, tokens, room)?;
-    if found.is_empty() {
-        return Ok(more);
-    }
-    found.append(more)?;
-    Ok(found)
-}
-
-#[cycle(expressions)]
-#[tactic(auto, using(mp_cursor::proofs::LoopLemmas::loop_more, mp_cursor::proofs::LoopLemmas::loop_done), unfolding(mp_cursor::specs::Parsers::repeated))]
+#[tactic(auto, using(mp_cursor::proofs::LoopLemmas::loop_more, mp_cursor::proofs::LoopLemmas::loop_done), unfolding(mp_cursor::specs::Parsers::repeated, crate::specs::Expressions::further_selection))]
 fn selections(
     alloc: Global,
     tokens: &mut Cursor<'_>,
@@ -153,7 +119,12 @@ fn selections(
         if !is_selecting(tokens.next()) {
             return Ok(found);
         }
-        found = further_selection(alloc, tokens, room, found)?;
+        let more = selection(alloc, tokens, room)?;
+        if found.is_empty() {
+            found = more;
+        } else {
+            found.append(more)?;
+        }
     }
     Ok(found)
 }
@@ -176,63 +147,27 @@ pub fn access_behind(
 // ---- actual parameters
 
 #[cycle(expressions)]
-#[tactic(auto, using(crate::proofs::RoomLemmas::behind_is), unfolding(crate::specs::Expressions::width))]
-fn width(alloc: Global, tokens: &mut Cursor<'_>, room: usize) -> Result<Width<Expr>, Failure>
-    requires { 0 < room }
-    ensures { Reads (spec.width room (behind room) tokens.old) result tokens.new }
-{
-    let at = tokens.expect(Next::Symbol(Symbol::Colon))?;
-    let value = expression(alloc, tokens, room - 1)?;
-    Ok(Width { at, value })
-}
-
-#[cycle(expressions)]
-#[tactic(auto, unfolding(crate::specs::Expressions::optional_width))]
-fn optional_width(
-    alloc: Global,
-    tokens: &mut Cursor<'_>,
-    room: usize,
-) -> Result<Option<Boxed<Width<Expr>>>, Failure>
-    requires { 0 < room }
-    ensures { Reads (spec.optional_width room (behind room) tokens.old) result tokens.new }
-{
-    if !tokens.sees(Next::Symbol(Symbol::Colon)) {
-        return Ok(None);
-    }
-    let found = width(alloc, tokens, room)?;
-    Ok(Some(Boxed::new(alloc, found)?))
-}
-
-#[cycle(expressions)]
-#[tactic(auto, using(crate::proofs::RoomLemmas::behind_is), unfolding(crate::specs::Expressions::actual))]
+#[tactic(auto, using(crate::proofs::RoomLemmas::behind_is), unfolding(crate::specs::Expressions::actual, crate::specs::Expressions::optional_width, crate::specs::Expressions::width))]
 fn actual(alloc: Global, tokens: &mut Cursor<'_>, room: usize) -> Result<Actual<Expr>, Failure>
     requires { 0 < room }
     ensures { Reads (spec.actual room (behind room) tokens.old) result tokens.new }
 {
     let value = expression(alloc, tokens, room - 1)?;
-    let width = optional_width(alloc, tokens, room)?;
-    Ok(Actual { value, width })
+    if !tokens.sees(Next::Symbol(Symbol::Colon)) {
+        return Ok(Actual { value, width: None });
+    }
+    let value = Boxed::new(alloc, value)?;
+    let at = tokens.expect(Next::Symbol(Symbol::Colon))?;
+    let width = expression(alloc, tokens, room - 1)?;
+    let width = Boxed::new(alloc, Width { at, value: width })?;
+    Ok(Actual {
+        value: value.into_inner(),
+        width: Some(width),
+    })
 }
 
 #[cycle(expressions)]
-#[tactic(auto, unfolding(crate::specs::Expressions::further_actual))]
-fn further_actual(
-    alloc: Global,
-    tokens: &mut Cursor<'_>,
-    room: usize,
-    mut found: Items<Actual<Expr>>,
-) -> Result<Items<Actual<Expr>>, Failure>
-    requires { 0 < room }
-    ensures { Reads (spec.further_actual room (behind room) found tokens.old) result tokens.new }
-{
-    tokens.expect(Next::Symbol(Symbol::Comma))?;
-    let more = actual(alloc, tokens, room)?;
-    found.push(more)?;
-    Ok(found)
-}
-
-#[cycle(expressions)]
-#[tactic(auto, using(mp_cursor::proofs::LoopLemmas::loop_more, mp_cursor::proofs::LoopLemmas::loop_done), unfolding(mp_cursor::specs::Parsers::repeated))]
+#[tactic(auto, using(mp_cursor::proofs::LoopLemmas::loop_more, mp_cursor::proofs::LoopLemmas::loop_done), unfolding(mp_cursor::specs::Parsers::repeated, crate::specs::Expressions::further_actual))]
 fn further_actuals(
     alloc: Global,
     tokens: &mut Cursor<'_>,
@@ -247,7 +182,8 @@ fn further_actuals(
         if !tokens.sees(Next::Symbol(Symbol::Comma)) {
             return Ok(found);
         }
-        found = further_actual(alloc, tokens, room, found)?;
+        tokens.expect(Next::Symbol(Symbol::Comma))?;
+        found.push(actual(alloc, tokens, room)?)?;
     }
     Ok(found)
 }
@@ -273,48 +209,26 @@ pub fn actuals(
 // ---- factors
 
 #[cycle(expressions)]
-#[tactic(auto, using(crate::proofs::RoomLemmas::behind_is), unfolding(crate::specs::Expressions::last_member))]
-fn last_member(alloc: Global, tokens: &mut Cursor<'_>, room: usize) -> Result<Option<Expr>, Failure>
-    requires { 0 < room }
-    ensures { Reads (spec.last_member room (behind room) tokens.old) result tokens.new }
-{
-    if !tokens.sees(Next::Symbol(Symbol::DotDot)) {
-        return Ok(None);
-    }
-    tokens.expect(Next::Symbol(Symbol::DotDot))?;
-    Ok(Some(expression(alloc, tokens, room - 1)?))
-}
-
-#[cycle(expressions)]
-#[tactic(auto, using(crate::proofs::RoomLemmas::behind_is), unfolding(crate::specs::Expressions::member))]
+#[tactic(auto, using(crate::proofs::RoomLemmas::behind_is), unfolding(crate::specs::Expressions::member, crate::specs::Expressions::last_member))]
 fn member(alloc: Global, tokens: &mut Cursor<'_>, room: usize) -> Result<Member<Expr>, Failure>
     requires { 0 < room }
     ensures { Reads (spec.member room (behind room) tokens.old) result tokens.new }
 {
     let first = expression(alloc, tokens, room - 1)?;
-    let last = last_member(alloc, tokens, room)?;
-    Ok(Member { first, last })
+    if !tokens.sees(Next::Symbol(Symbol::DotDot)) {
+        return Ok(Member { first, last: None });
+    }
+    let first = Boxed::new(alloc, first)?;
+    tokens.expect(Next::Symbol(Symbol::DotDot))?;
+    let last = expression(alloc, tokens, room - 1)?;
+    Ok(Member {
+        first: first.into_inner(),
+        last: Some(last),
+    })
 }
 
 #[cycle(expressions)]
-#[tactic(auto, unfolding(crate::specs::Expressions::further_member))]
-fn further_member(
-    alloc: Global,
-    tokens: &mut Cursor<'_>,
-    room: usize,
-    mut found: Items<Member<Expr>>,
-) -> Result<Items<Member<Expr>>, Failure>
-    requires { 0 < room }
-    ensures { Reads (spec.further_member room (behind room) found tokens.old) result tokens.new }
-{
-    tokens.expect(Next::Symbol(Symbol::Comma))?;
-    let more = member(alloc, tokens, room)?;
-    found.push(more)?;
-    Ok(found)
-}
-
-#[cycle(expressions)]
-#[tactic(auto, using(mp_cursor::proofs::LoopLemmas::loop_more, mp_cursor::proofs::LoopLemmas::loop_done), unfolding(mp_cursor::specs::Parsers::repeated))]
+#[tactic(auto, using(mp_cursor::proofs::LoopLemmas::loop_more, mp_cursor::proofs::LoopLemmas::loop_done), unfolding(mp_cursor::specs::Parsers::repeated, crate::specs::Expressions::further_member))]
 fn further_members(
     alloc: Global,
     tokens: &mut Cursor<'_>,
@@ -329,28 +243,14 @@ fn further_members(
         if !tokens.sees(Next::Symbol(Symbol::Comma)) {
             return Ok(found);
         }
-        found = further_member(alloc, tokens, room, found)?;
+        tokens.expect(Next::Symbol(Symbol::Comma))?;
+        found.push(member(alloc, tokens, room)?)?;
     }
     Ok(found)
 }
 
 #[cycle(expressions)]
 #[tactic(auto, unfolding(crate::specs::Expressions::some_members))]
-fn some_members(
-    alloc: Global,
-    tokens: &mut Cursor<'_>,
-    room: usize,
-) -> Result<Items<Member<Expr>>, Failure>
-    requires { 0 < room }
-    ensures { Reads (spec.some_members room (behind room) tokens.old) result tokens.new }
-{
-    let first = member(alloc, tokens, room)?;
-    let found = single(alloc, first)?;
-    further_members(alloc, tokens, room, found)
-}
-
-#[cycle(expressions)]
-#[tactic(auto)]
 fn members(
     alloc: Global,
     tokens: &mut Cursor<'_>,
@@ -362,7 +262,9 @@ fn members(
     if tokens.sees(Next::Symbol(Symbol::RightBracket)) {
         return Ok(Items::new(alloc));
     }
-    some_members(alloc, tokens, room)
+    let first = member(alloc, tokens, room)?;
+    let found = single(alloc, first)?;
+    further_members(alloc, tokens, room, found)
 }
 
 #[cycle(expressions)]
@@ -429,27 +331,7 @@ fn factor(alloc: Global, tokens: &mut Cursor<'_>, room: usize) -> Result<Expr, F
 // ---- expressions
 
 #[cycle(expressions)]
-#[tactic(auto, unfolding(crate::specs::Expressions::further_factor))]
-fn further_factor(
-    alloc: Global,
-    tokens: &mut Cursor<'_>,
-    room: usize,
-    found: Items<Operation<Expr>>,
-) -> Result<Items<Operation<Expr>>, Failure>
-    ensures { Reads (spec.further_factor room (behind room) found tokens.old) result tokens.new }
-{
-    let (at, operator) = multiplying_operator(tokens)?;
-    let operand = factor(alloc, tokens, room)?;
-    let more = Operation {
-        at,
-        operator,
-        operand,
-    };
-    Ok(added(alloc, found, more)?)
-}
-
-#[cycle(expressions)]
-#[tactic(auto, using(mp_cursor::proofs::LoopLemmas::loop_more, mp_cursor::proofs::LoopLemmas::loop_done), unfolding(mp_cursor::specs::Parsers::repeated))]
+#[tactic(auto, using(mp_cursor::proofs::LoopLemmas::loop_more, mp_cursor::proofs::LoopLemmas::loop_done), unfolding(mp_cursor::specs::Parsers::repeated, crate::specs::Expressions::further_factor))]
 fn further_factors(
     alloc: Global,
     tokens: &mut Cursor<'_>,
@@ -462,54 +344,44 @@ fn further_factors(
         if !is_multiplying(tokens.next()) {
             return Ok(found);
         }
-        found = further_factor(alloc, tokens, room, found)?;
+        let (at, operator) = multiplying_operator(tokens)?;
+        let operand = factor(alloc, tokens, room)?;
+        let more = Operation {
+            at,
+            operator,
+            operand,
+        };
+        found = added(alloc, found, more)?;
     }
     Ok(found)
 }
 
 // A factor, with the factors behind it where there are any.
-fn product(alloc: Global, first: Expr, more: Items<Operation<Expr>>) -> Result<Expr, Failure>
-    ensures tree { IfOk result (λ x. x ≡ grammar.product first more) }
-    ensures memory { IfErr result (λ e. e ≡ failure.Memory) }
+fn product(first: Boxed<Expr>, more: Items<Operation<Expr>>) -> Expr
+    ensures { result ≡ grammar.product first more }
 {
     if more.is_empty() {
-        return Ok(first);
+        return first.into_inner();
     }
-    Ok(Expr::Product(Boxed::new(alloc, first)?, more))
+    Expr::Product(first, more)
 }
 
 #[cycle(expressions)]
-#[tactic(auto, unfolding(crate::specs::Expressions::term))]
+#[tactic(auto, using(mp_cursor::proofs::LoopLemmas::no_turn), unfolding(crate::specs::Expressions::term))]
 fn term(alloc: Global, tokens: &mut Cursor<'_>, room: usize) -> Result<Expr, Failure>
     ensures { Reads (spec.term room (behind room) tokens.old) result tokens.new }
 {
     let first = factor(alloc, tokens, room)?;
+    if !is_multiplying(tokens.next()) {
+        return Ok(first);
+    }
+    let first = Boxed::new(alloc, first)?;
     let more = further_factors(alloc, tokens, room)?;
-    product(alloc, first, more)
+    Ok(product(first, more))
 }
 
 #[cycle(expressions)]
-#[tactic(auto, unfolding(crate::specs::Expressions::further_term))]
-fn further_term(
-    alloc: Global,
-    tokens: &mut Cursor<'_>,
-    room: usize,
-    found: Items<Operation<Expr>>,
-) -> Result<Items<Operation<Expr>>, Failure>
-    ensures { Reads (spec.further_term room (behind room) found tokens.old) result tokens.new }
-{
-    let (at, operator) = adding_operator(tokens)?;
-    let operand = term(alloc, tokens, room)?;
-    let more = Operation {
-        at,
-        operator,
-        operand,
-    };
-    Ok(added(alloc, found, more)?)
-}
-
-#[cycle(expressions)]
-#[tactic(auto, using(mp_cursor::proofs::LoopLemmas::loop_more, mp_cursor::proofs::LoopLemmas::loop_done), unfolding(mp_cursor::specs::Parsers::repeated))]
+#[tactic(auto, using(mp_cursor::proofs::LoopLemmas::loop_more, mp_cursor::proofs::LoopLemmas::loop_done), unfolding(mp_cursor::specs::Parsers::repeated, crate::specs::Expressions::further_term))]
 fn further_terms(
     alloc: Global,
     tokens: &mut Cursor<'_>,
@@ -522,55 +394,46 @@ fn further_terms(
         if !is_adding(tokens.next()) {
             return Ok(found);
         }
-        found = further_term(alloc, tokens, room, found)?;
+        let (at, operator) = adding_operator(tokens)?;
+        let operand = term(alloc, tokens, room)?;
+        let more = Operation {
+            at,
+            operator,
+            operand,
+        };
+        found = added(alloc, found, more)?;
     }
     Ok(found)
 }
 
 // A term alone, or with its sign and the terms behind it.
-fn sum(
-    alloc: Global,
-    sign: Option<Sign>,
-    first: Expr,
-    more: Items<Operation<Expr>>,
-) -> Result<Expr, Failure>
-    ensures tree { IfOk result (λ x. x ≡ grammar.sum sign first more) }
-    ensures memory { IfErr result (λ e. e ≡ failure.Memory) }
+fn sum(sign: Option<Sign>, first: Boxed<Expr>, more: Items<Operation<Expr>>) -> Expr
+    ensures { result ≡ grammar.sum sign first more }
 {
     if sign.is_none() && more.is_empty() {
-        return Ok(first);
+        return first.into_inner();
     }
-    Ok(Expr::Sum(sign, Boxed::new(alloc, first)?, more))
+    Expr::Sum(sign, first, more)
 }
 
 #[cycle(expressions)]
-#[tactic(auto, unfolding(crate::specs::Expressions::simple_expression))]
+#[tactic(auto, using(mp_cursor::proofs::LoopLemmas::no_turn), unfolding(crate::specs::Expressions::simple_expression))]
 fn simple_expression(alloc: Global, tokens: &mut Cursor<'_>, room: usize) -> Result<Expr, Failure>
     ensures { Reads (spec.simple_expression room (behind room) tokens.old) result tokens.new }
 {
     let sign = optional_sign(tokens)?;
     let first = term(alloc, tokens, room)?;
+    if sign.is_none() && !is_adding(tokens.next()) {
+        return Ok(first);
+    }
+    let first = Boxed::new(alloc, first)?;
     let more = further_terms(alloc, tokens, room)?;
-    sum(alloc, sign, first, more)
-}
-
-#[cycle(expressions)]
-#[tactic(auto, unfolding(crate::specs::Expressions::related))]
-fn related(alloc: Global, tokens: &mut Cursor<'_>, room: usize) -> Result<Operation<Expr>, Failure>
-    ensures { Reads (spec.related room (behind room) tokens.old) result tokens.new }
-{
-    let (at, operator) = relational_operator(tokens)?;
-    let operand = simple_expression(alloc, tokens, room)?;
-    Ok(Operation {
-        at,
-        operator,
-        operand,
-    })
+    Ok(sum(sign, first, more))
 }
 
 /// An expression (ISO 7185, 6.7.1), where so many more openers may stand open.
 #[cycle(expressions)]
-#[tactic(auto, unfolding(crate::specs::Expressions::expression_with))]
+#[tactic(auto, unfolding(crate::specs::Expressions::expression_with, crate::specs::Expressions::related))]
 pub fn expression(alloc: Global, tokens: &mut Cursor<'_>, room: usize) -> Result<Expr, Failure>
     ensures { Reads (spec.expression room tokens.old) result tokens.new }
 {
@@ -579,8 +442,14 @@ pub fn expression(alloc: Global, tokens: &mut Cursor<'_>, room: usize) -> Result
         return Ok(left);
     }
     let left = Boxed::new(alloc, left)?;
-    let right = Boxed::new(alloc, related(alloc, tokens, room)?)?;
-    Ok(Expr::Relation(left, right))
+    let (at, operator) = relational_operator(tokens)?;
+    let operand = simple_expression(alloc, tokens, room)?;
+    let right = Operation {
+        at,
+        operator,
+        operand,
+    };
+    Ok(Expr::Relation(left, Boxed::new(alloc, right)?))
 }
 
 /// A variable (ISO 7185, 6.5), where so many more openers may stand open.

@@ -53,23 +53,7 @@ pub(crate) fn for_head(
     Ok(Boxed::new(alloc, head)?)
 }
 
-// One more record behind a comma.
-#[tactic(auto, unfolding(crate::specs::Statements::further_record))]
-fn further_record(
-    alloc: Global,
-    tokens: &mut Cursor<'_>,
-    room: usize,
-    mut found: Items<Access<Expr>>,
-) -> Result<Items<Access<Expr>>, Failure>
-    ensures { Reads (spec.further_record (expressions.access room) found tokens.old) result tokens.new }
-{
-    tokens.expect(Next::Symbol(Symbol::Comma))?;
-    let more = access(alloc, tokens, room)?;
-    found.push(more)?;
-    Ok(found)
-}
-
-#[tactic(auto, using(mp_cursor::proofs::LoopLemmas::loop_more, mp_cursor::proofs::LoopLemmas::loop_done), unfolding(mp_cursor::specs::Parsers::repeated))]
+#[tactic(auto, using(mp_cursor::proofs::LoopLemmas::loop_more, mp_cursor::proofs::LoopLemmas::loop_done), unfolding(mp_cursor::specs::Parsers::repeated, crate::specs::Statements::further_record))]
 fn further_records(
     alloc: Global,
     tokens: &mut Cursor<'_>,
@@ -83,7 +67,8 @@ fn further_records(
         if !tokens.sees(Next::Symbol(Symbol::Comma)) {
             return Ok(found);
         }
-        found = further_record(alloc, tokens, room, found)?;
+        tokens.expect(Next::Symbol(Symbol::Comma))?;
+        found.push(access(alloc, tokens, room)?)?;
     }
     Ok(found)
 }

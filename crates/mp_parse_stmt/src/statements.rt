@@ -15,25 +15,8 @@ use std::alloc::Global;
 
 // ---- what has statements in it
 
-// One more statement behind a semicolon.
 #[cycle(statements)]
-#[tactic(auto, unfolding(crate::specs::Statements::further_statement))]
-fn further_statement(
-    alloc: Global,
-    tokens: &mut Cursor<'_>,
-    room: usize,
-    mut found: Items<Statement>,
-) -> Result<Items<Statement>, Failure>
-    ensures { Reads (spec.further_statement (spec.statement room) found tokens.old) result tokens.new }
-{
-    tokens.expect(Next::Symbol(Symbol::Semicolon))?;
-    let more = statement(alloc, tokens, room)?;
-    found.push(more)?;
-    Ok(found)
-}
-
-#[cycle(statements)]
-#[tactic(auto, using(mp_cursor::proofs::LoopLemmas::loop_more, mp_cursor::proofs::LoopLemmas::loop_done), unfolding(mp_cursor::specs::Parsers::repeated))]
+#[tactic(auto, using(mp_cursor::proofs::LoopLemmas::loop_more, mp_cursor::proofs::LoopLemmas::loop_done), unfolding(mp_cursor::specs::Parsers::repeated, crate::specs::Statements::further_statement))]
 fn further_statements(
     alloc: Global,
     tokens: &mut Cursor<'_>,
@@ -47,7 +30,8 @@ fn further_statements(
         if !tokens.sees(Next::Symbol(Symbol::Semicolon)) {
             return Ok(found);
         }
-        found = further_statement(alloc, tokens, room, found)?;
+        tokens.expect(Next::Symbol(Symbol::Semicolon))?;
+        found.push(statement(alloc, tokens, room)?)?;
     }
     Ok(found)
 }
@@ -107,22 +91,7 @@ fn begins_arm(next: Next) -> bool
 }
 
 #[cycle(statements)]
-#[tactic(auto, unfolding(crate::specs::Statements::further_arm))]
-fn further_arm(
-    alloc: Global,
-    tokens: &mut Cursor<'_>,
-    room: usize,
-    mut found: Items<Arm<Statement>>,
-) -> Result<Items<Arm<Statement>>, Failure>
-    ensures { Reads (spec.further_arm (spec.statement room) found tokens.old) result tokens.new }
-{
-    let more = arm(alloc, tokens, room)?;
-    found.push(more)?;
-    Ok(found)
-}
-
-#[cycle(statements)]
-#[tactic(auto, using(mp_cursor::proofs::LoopLemmas::series_more, mp_cursor::proofs::LoopLemmas::series_done), unfolding(mp_cursor::specs::Parsers::repeated_series))]
+#[tactic(auto, using(mp_cursor::proofs::LoopLemmas::series_more, mp_cursor::proofs::LoopLemmas::series_done), unfolding(mp_cursor::specs::Parsers::repeated_series, crate::specs::Statements::further_arm))]
 fn further_arms(
     alloc: Global,
     tokens: &mut Cursor<'_>,
@@ -140,7 +109,7 @@ fn further_arms(
         if !begins_arm(tokens.next()) {
             return Ok(found);
         }
-        found = further_arm(alloc, tokens, room, found)?;
+        found.push(arm(alloc, tokens, room)?)?;
     }
     Ok(found)
 }

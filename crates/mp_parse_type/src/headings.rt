@@ -96,25 +96,8 @@ fn formal(alloc: Global, tokens: &mut Cursor<'_>, room: usize) -> Result<FormalS
     }
 }
 
-// One more section behind a `;`.
 #[cycle(formals)]
-#[tactic(auto, unfolding(crate::specs::Headings::further_formal))]
-fn further_formal(
-    alloc: Global,
-    tokens: &mut Cursor<'_>,
-    room: usize,
-    mut found: Items<FormalSection>,
-) -> Result<Items<FormalSection>, Failure>
-    ensures { Reads (spec.further_formal (spec.formals room) found tokens.old) result tokens.new }
-{
-    tokens.expect(Next::Symbol(Symbol::Semicolon))?;
-    let more = formal(alloc, tokens, room)?;
-    found.push(more)?;
-    Ok(found)
-}
-
-#[cycle(formals)]
-#[tactic(auto, using(mp_cursor::proofs::LoopLemmas::loop_more, mp_cursor::proofs::LoopLemmas::loop_done), unfolding(mp_cursor::specs::Parsers::repeated))]
+#[tactic(auto, using(mp_cursor::proofs::LoopLemmas::loop_more, mp_cursor::proofs::LoopLemmas::loop_done), unfolding(mp_cursor::specs::Parsers::repeated, crate::specs::Headings::further_formal))]
 fn further_formals(
     alloc: Global,
     tokens: &mut Cursor<'_>,
@@ -128,7 +111,8 @@ fn further_formals(
         if !tokens.sees(Next::Symbol(Symbol::Semicolon)) {
             return Ok(found);
         }
-        found = further_formal(alloc, tokens, room, found)?;
+        tokens.expect(Next::Symbol(Symbol::Semicolon))?;
+        found.push(formal(alloc, tokens, room)?)?;
     }
     Ok(found)
 }

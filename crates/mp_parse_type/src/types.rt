@@ -97,22 +97,7 @@ fn structure_word(
     }
 }
 
-// One more index type behind a comma.
-#[tactic(auto, unfolding(crate::specs::Types::further_index))]
-fn further_index(
-    alloc: Global,
-    tokens: &mut Cursor<'_>,
-    mut found: Items<Index<Denoter>>,
-) -> Result<Items<Index<Denoter>>, Failure>
-    ensures { Reads (spec.further_index found tokens.old) result tokens.new }
-{
-    let at = tokens.expect(Next::Symbol(Symbol::Comma))?;
-    let of = simple_type(alloc, tokens)?;
-    found.push(Index { at, of })?;
-    Ok(found)
-}
-
-#[tactic(auto, using(mp_cursor::proofs::LoopLemmas::loop_more, mp_cursor::proofs::LoopLemmas::loop_done), unfolding(mp_cursor::specs::Parsers::repeated))]
+#[tactic(auto, using(mp_cursor::proofs::LoopLemmas::loop_more, mp_cursor::proofs::LoopLemmas::loop_done), unfolding(mp_cursor::specs::Parsers::repeated, crate::specs::Types::further_index))]
 fn further_indices(
     alloc: Global,
     tokens: &mut Cursor<'_>,
@@ -125,7 +110,9 @@ fn further_indices(
         if !tokens.sees(Next::Symbol(Symbol::Comma)) {
             return Ok(found);
         }
-        found = further_index(alloc, tokens, found)?;
+        let at = tokens.expect(Next::Symbol(Symbol::Comma))?;
+        let of = simple_type(alloc, tokens)?;
+        found.push(Index { at, of })?;
     }
     Ok(found)
 }
@@ -302,21 +289,6 @@ fn variant(alloc: Global, tokens: &mut Cursor<'_>, room: usize) -> Result<Varian
     Ok(Variant { constants, fields })
 }
 
-#[cycle(denoters)]
-#[tactic(auto, unfolding(crate::specs::Types::further_variant))]
-fn further_variant(
-    alloc: Global,
-    tokens: &mut Cursor<'_>,
-    room: usize,
-    mut found: Items<Variant<Denoter>>,
-) -> Result<Items<Variant<Denoter>>, Failure>
-    ensures { Reads (spec.further_variant (spec.field_list room) found tokens.old) result tokens.new }
-{
-    let more = variant(alloc, tokens, room)?;
-    found.push(more)?;
-    Ok(found)
-}
-
 fn begins_constant(next: Next) -> bool
     ensures { result ≡ spec.constant_begins next }
 {
@@ -327,7 +299,7 @@ fn begins_constant(next: Next) -> bool
 }
 
 #[cycle(denoters)]
-#[tactic(auto, using(mp_cursor::proofs::LoopLemmas::series_more, mp_cursor::proofs::LoopLemmas::series_done), unfolding(mp_cursor::specs::Parsers::repeated_series))]
+#[tactic(auto, using(mp_cursor::proofs::LoopLemmas::series_more, mp_cursor::proofs::LoopLemmas::series_done), unfolding(mp_cursor::specs::Parsers::repeated_series, crate::specs::Types::further_variant))]
 fn further_variants(
     alloc: Global,
     tokens: &mut Cursor<'_>,
@@ -345,7 +317,7 @@ fn further_variants(
         if !begins_constant(tokens.next()) {
             return Ok(found);
         }
-        found = further_variant(alloc, tokens, room, found)?;
+        found.push(variant(alloc, tokens, room)?)?;
     }
     Ok(found)
 }
@@ -401,22 +373,6 @@ fn variant_part(
     })
 }
 
-// One more section.
-#[cycle(denoters)]
-#[tactic(auto, unfolding(crate::specs::Types::further_section))]
-fn further_section(
-    alloc: Global,
-    tokens: &mut Cursor<'_>,
-    room: usize,
-    mut found: Items<Section<Denoter>>,
-) -> Result<Items<Section<Denoter>>, Failure>
-    ensures { Reads (spec.further_section room (behind room) found tokens.old) result tokens.new }
-{
-    let more = section(alloc, tokens, room)?;
-    found.push(more)?;
-    Ok(found)
-}
-
 // What may stand behind the last section: a variant part.
 #[cycle(denoters)]
 #[tactic(auto)]
@@ -437,7 +393,7 @@ fn last_fields(
 
 // The sections behind the first ones, and the variant part.
 #[cycle(denoters)]
-#[tactic(auto, using(crate::proofs::LoopLemmas::last_more, crate::proofs::LoopLemmas::last_done), unfolding(crate::specs::Types::repeated_and_last))]
+#[tactic(auto, using(crate::proofs::LoopLemmas::last_more, crate::proofs::LoopLemmas::last_done), unfolding(crate::specs::Types::repeated_and_last, crate::specs::Types::further_section))]
 fn further_fields(
     alloc: Global,
     tokens: &mut Cursor<'_>,
@@ -455,7 +411,7 @@ fn further_fields(
         if !tokens.sees(Next::Identifier) {
             return last_fields(alloc, tokens, room, found);
         }
-        found = further_section(alloc, tokens, room, found)?;
+        found.push(section(alloc, tokens, room)?)?;
     }
     Ok(Denoter::Fields(found, None))
 }

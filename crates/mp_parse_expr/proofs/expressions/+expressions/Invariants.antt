@@ -8,9 +8,6 @@ use Rattle.mp_parse_expr.specs.Expressions.{behind, selecting, further_index, fu
 use Rattle.mp_parse_expr.proofs.expressions.+expressions.Given as goal
 
 -- each call has less room, or the same room and a lower rank
-abbrev pub decreases-further_index : goal.decreases-further_index
-decreases-further_index l = 32 * l.room + 0
-
 abbrev pub decreases-further_indices : goal.decreases-further_indices
 decreases-further_indices l = 32 * l.room + 1
 
@@ -20,26 +17,14 @@ decreases-index_list l = 32 * l.room + 2
 abbrev pub decreases-selection : goal.decreases-selection
 decreases-selection l = 32 * l.room + 3
 
-abbrev pub decreases-further_selection : goal.decreases-further_selection
-decreases-further_selection l = 32 * l.room + 4
-
 abbrev pub decreases-selections : goal.decreases-selections
 decreases-selections l = 32 * l.room + 5
 
 abbrev pub decreases-access_behind : goal.decreases-access_behind
 decreases-access_behind l = 32 * l.room + 6
 
-abbrev pub decreases-width : goal.decreases-width
-decreases-width l = 32 * l.room + 0
-
-abbrev pub decreases-optional_width : goal.decreases-optional_width
-decreases-optional_width l = 32 * l.room + 1
-
 abbrev pub decreases-actual : goal.decreases-actual
 decreases-actual l = 32 * l.room + 2
-
-abbrev pub decreases-further_actual : goal.decreases-further_actual
-decreases-further_actual l = 32 * l.room + 3
 
 abbrev pub decreases-further_actuals : goal.decreases-further_actuals
 decreases-further_actuals l = 32 * l.room + 4
@@ -47,20 +32,11 @@ decreases-further_actuals l = 32 * l.room + 4
 abbrev pub decreases-actuals : goal.decreases-actuals
 decreases-actuals l = 32 * l.room + 5
 
-abbrev pub decreases-last_member : goal.decreases-last_member
-decreases-last_member l = 32 * l.room + 0
-
 abbrev pub decreases-member : goal.decreases-member
 decreases-member l = 32 * l.room + 1
 
-abbrev pub decreases-further_member : goal.decreases-further_member
-decreases-further_member l = 32 * l.room + 2
-
 abbrev pub decreases-further_members : goal.decreases-further_members
 decreases-further_members l = 32 * l.room + 3
-
-abbrev pub decreases-some_members : goal.decreases-some_members
-decreases-some_members l = 32 * l.room + 4
 
 abbrev pub decreases-members : goal.decreases-members
 decreases-members l = 32 * l.room + 5
@@ -80,26 +56,17 @@ decreases-named l = 32 * l.room + 7
 abbrev pub decreases-factor : goal.decreases-factor
 decreases-factor l = 32 * l.room + 8
 
-abbrev pub decreases-further_factor : goal.decreases-further_factor
-decreases-further_factor l = 32 * l.room + 9
-
 abbrev pub decreases-further_factors : goal.decreases-further_factors
 decreases-further_factors l = 32 * l.room + 10
 
 abbrev pub decreases-term : goal.decreases-term
 decreases-term l = 32 * l.room + 11
 
-abbrev pub decreases-further_term : goal.decreases-further_term
-decreases-further_term l = 32 * l.room + 12
-
 abbrev pub decreases-further_terms : goal.decreases-further_terms
 decreases-further_terms l = 32 * l.room + 13
 
 abbrev pub decreases-simple_expression : goal.decreases-simple_expression
 decreases-simple_expression l = 32 * l.room + 14
-
-abbrev pub decreases-related : goal.decreases-related
-decreases-related l = 32 * l.room + 15
 
 abbrev pub decreases-expression : goal.decreases-expression
 decreases-expression l = 32 * l.room + 16

@@ -7,9 +7,6 @@ use Rattle.mp_parse_stmt.specs.Statements.{statement, further_statement, further
 use Rattle.mp_parse_stmt.proofs.statements.+statements.Given as goal
 
 -- each call has less room, or the same room and a lower rank
-abbrev pub decreases-further_statement : goal.decreases-further_statement
-decreases-further_statement l = 8 * l.room + 4
-
 abbrev pub decreases-further_statements : goal.decreases-further_statements
 decreases-further_statements l = 8 * l.room + 5
 
@@ -21,9 +18,6 @@ decreases-else_part l = 8 * l.room + 4
 
 abbrev pub decreases-arm : goal.decreases-arm
 decreases-arm l = 8 * l.room + 4
-
-abbrev pub decreases-further_arm : goal.decreases-further_arm
-decreases-further_arm l = 8 * l.room + 5
 
 abbrev pub decreases-further_arms : goal.decreases-further_arms
 decreases-further_arms l = 8 * l.room + 6

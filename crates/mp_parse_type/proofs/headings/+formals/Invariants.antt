@@ -19,9 +19,6 @@ decreases-function_parameter l = 32 * l.room + 2
 abbrev pub decreases-formal : goal.decreases-formal
 decreases-formal l = 32 * l.room + 3
 
-abbrev pub decreases-further_formal : goal.decreases-further_formal
-decreases-further_formal l = 32 * l.room + 4
-
 abbrev pub decreases-further_formals : goal.decreases-further_formals
 decreases-further_formals l = 32 * l.room + 5
 

@@ -30,14 +30,8 @@ decreases-denoter l = 32 * l.room + 3
 abbrev pub decreases-section : goal.decreases-section
 decreases-section l = 32 * l.room + 4
 
-abbrev pub decreases-further_section : goal.decreases-further_section
-decreases-further_section l = 32 * l.room + 5
-
 abbrev pub decreases-variant : goal.decreases-variant
 decreases-variant l = 32 * l.room + 9
-
-abbrev pub decreases-further_variant : goal.decreases-further_variant
-decreases-further_variant l = 32 * l.room + 10
 
 abbrev pub decreases-further_variants : goal.decreases-further_variants
 decreases-further_variants l = 32 * l.room + 11
