@@ -1,5 +1,5 @@
-use crate::leaves::{identifier, identifiers};
-use crate::written::{Outcome, Written};
+use crate::trees::leaves::{identifier, identifiers};
+use crate::trees::written::{Outcome, Written};
 use mp_ast::{FormalSection, HeadingKind, HeadingTree, Identifier};
 
 // `: t@5`

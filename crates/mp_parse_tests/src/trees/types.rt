@@ -1,5 +1,5 @@
-use crate::leaves::{constant, constants, identifier, identifiers};
-use crate::written::{Outcome, Written};
+use crate::trees::leaves::{constant, constants, identifier, identifiers};
+use crate::trees::written::{Outcome, Written};
 use mp_ast::{Denoter, Index, Section, Variant, VariantPart};
 
 fn packed(out: &mut Written, is_packed: bool) -> Outcome {

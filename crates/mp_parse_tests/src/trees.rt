@@ -1,10 +1,9 @@
-//! The tests of the parser: texts, and the tree or the error of each, worked out by hand from the grammar
-//! (`docs/LANGUAGE.md`).
+//! Texts, and the tree or the error of each, worked out by hand from the grammar (`docs/LANGUAGE.md`).
 //!
-//! The program reads texts, each ended by a line `=====`, and writes behind each text its answer. `stdin` has the
-//! texts: for each production of the grammar at least two, and then texts that are no programs. `stdout` has the same
-//! texts with the answers that are right, so that it is the page to read. Texts that are too long to write down, those
-//! at the limits, stand in `mp_unit_tests`.
+//! The last part of the program's input are texts, each ended by a line `=====`; behind each its answer is written.
+//! There are at least two for each production of the grammar, and then texts that are no programs. `stdout` has them
+//! with the answers that are right, so that it is the page to read. Texts that are too long to write down, those at the
+//! limits, stand in `mp_unit_tests`.
 //!
 //! # How an answer is written
 //!
@@ -44,7 +43,6 @@
 //! | `(set@4 E (.. E E) ..)` | a set, with its members |
 //! | `(product E (*@5 E) ..)`, `(sum -@4 E (+@6 E) ..)` | a term and a simple expression, each with its operators |
 //! | `(relation E (=@5 E))` | two simple expressions with a relation |
-#![tactic(auto)]
 
 mod answers;
 mod blocks;
@@ -55,15 +53,4 @@ mod statements;
 mod types;
 mod written;
 
-use answers::answers;
-use std::io::{self, ErrorKind, Read, Write};
-
-fn main(rt: HostRuntime) -> io::Result<()> {
-    let alloc = rt.alloc();
-    let mut input = Vec::new(alloc);
-    rt.stdin().read_to_end(&mut input)?;
-    let Ok(out) = answers(alloc, input.as_slice()) else {
-        return Err(ErrorKind::OutOfMemory.into());
-    };
-    io::writer(&rt).write_all(out.bytes())
-}
+pub use answers::answers;

@@ -1,8 +1,8 @@
-use crate::headings::heading;
-use crate::leaves::{constant, identifier, identifiers, number};
-use crate::statements::statements;
-use crate::types::{denoter, section};
-use crate::written::{Outcome, Written};
+use crate::trees::headings::heading;
+use crate::trees::leaves::{constant, identifier, identifiers, number};
+use crate::trees::statements::statements;
+use crate::trees::types::{denoter, section};
+use crate::trees::written::{Outcome, Written};
 use mp_ast::{Block, Declaration, DeclaredBody, StatementPart, Tree};
 
 fn program(out: &mut Written, x: &Block) -> Outcome {

@@ -1,5 +1,5 @@
-use crate::leaves::{character_string, identifier, number, sign};
-use crate::written::{Outcome, Written};
+use crate::trees::leaves::{character_string, identifier, number, sign};
+use crate::trees::written::{Outcome, Written};
 use mp_ast::{Access, Actual, Expr, Identifier, Member, Operation, Operator, Selector};
 
 fn spelling(operator: Operator) -> &'static str {

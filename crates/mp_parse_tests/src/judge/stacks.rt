@@ -1,4 +1,4 @@
-use crate::grammar::{Grammar, Step, Terminal};
+use crate::judge::grammar::{Grammar, Step, Terminal};
 use std::alloc::{AllocError, Global};
 
 /// The places at which a derivation goes on: the last one next, and each other one where a rule returns. Where there is

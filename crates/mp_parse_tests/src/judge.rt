@@ -1,9 +1,9 @@
 //! A slow judge of the parser: over short lists of tokens, whether a list is a program and where its first syntax error
 //! stands.
 //!
-//! `stdin` has the grammar, word for word as it stands in `docs/LANGUAGE.md`, and behind it families of lists. The
-//! program writes each family and, where `mp_parse::parse` answers to all of its lists as the grammar says, how many
-//! lists there are. Else it writes the first list to which it does not.
+//! The program's input begins with the grammar, word for word as it stands in `docs/LANGUAGE.md`, and behind it families
+//! of lists. The judge writes each family and, where `mp_parse::parse` answers to all of its lists as the grammar says,
+//! how many lists there are. Else it writes the first list to which it does not.
 //!
 //! # How it is independent of the parser
 //!
@@ -30,7 +30,6 @@
 //! The four numbers count the programs among the lists, the other beginnings of programs, and the lists with 201 and
 //! with 205 at their last token. Those in `stdout` were counted by another program, which builds the sets of sentences
 //! and of their beginnings production by production.
-#![tactic(auto)]
 
 mod errors;
 mod families;
@@ -39,15 +38,4 @@ mod notation;
 mod parser;
 mod stacks;
 
-use families::answers;
-use std::io::{self, ErrorKind, Read, Write};
-
-fn main(rt: HostRuntime) -> io::Result<()> {
-    let alloc = rt.alloc();
-    let mut input = String::new(alloc);
-    rt.stdin().read_to_string(&mut input)?;
-    let Ok(out) = answers(alloc, input.as_str()) else {
-        return Err(ErrorKind::OutOfMemory.into());
-    };
-    io::writer(&rt).write_all(out.as_bytes())
-}
+pub use families::answers;

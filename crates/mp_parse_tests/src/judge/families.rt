@@ -1,7 +1,7 @@
-use crate::errors::JudgeError;
-use crate::grammar::{Grammar, Terminal};
-use crate::parser::{Answer, parser_answer};
-use crate::stacks::Stacks;
+use crate::judge::errors::JudgeError;
+use crate::judge::grammar::{Grammar, Terminal};
+use crate::judge::parser::{Answer, parser_answer};
+use crate::judge::stacks::Stacks;
 use std::alloc::{AllocError, Global};
 
 /// A token of an alphabet.

@@ -1,6 +1,6 @@
-use crate::expressions::{access, call, expression};
-use crate::leaves::{constants, identifier, number};
-use crate::written::{Outcome, Written};
+use crate::trees::expressions::{access, call, expression};
+use crate::trees::leaves::{constants, identifier, number};
+use crate::trees::written::{Outcome, Written};
 use mp_ast::{Access, Arm, Direction, Expr, ForHead, Statement};
 use sqlite_items::Boxed;
 

@@ -1,4 +1,4 @@
-use crate::notation::{Piece, pieces};
+use crate::judge::notation::{Piece, pieces};
 use std::alloc::{AllocError, Global};
 
 /// A token, as far as the grammar tells it from others.

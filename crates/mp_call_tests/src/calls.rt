@@ -1,7 +1,7 @@
 mod counted;
 mod faults;
+mod grammar_limits;
 mod limits;
-mod openers;
 mod replies;
 mod scripts;
 mod syntax;
@@ -127,7 +127,7 @@ fn repeated(alloc: Global, pieces: &[(usize, &str)]) -> Result<Vec<u8>, Memory> 
 #[test]
 fn texts_past_a_limit_of_the_grammar_are_listed(rt: HostRuntime) -> Result<(), Fail> {
     let alloc = rt.alloc();
-    for (pieces, written) in openers::LIMITS {
+    for (pieces, written) in grammar_limits::LIMITS {
         let text = repeated(alloc, pieces)?;
         are_answered(&rt, alloc, "list", &[(text.as_slice(), *written)])?;
     }

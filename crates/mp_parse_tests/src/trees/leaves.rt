@@ -1,4 +1,4 @@
-use crate::written::{Outcome, Written};
+use crate::trees::written::{Outcome, Written};
 use mp_ast::{CharacterString, Constant, Identifier, Number, Sign, SignKind};
 
 pub fn identifier(out: &mut Written, x: &Identifier) -> Outcome {

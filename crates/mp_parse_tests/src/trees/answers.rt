@@ -1,5 +1,5 @@
-use crate::blocks::tree;
-use crate::written::{Outcome, Written};
+use crate::trees::blocks::tree;
+use crate::trees::written::{Outcome, Written};
 use mp_base::{Memory, TEXT_LIMIT};
 use mp_lex::lex;
 use mp_parse::{ParseError, parse};
