@@ -36,11 +36,18 @@ fn outer(alloc: Global) -> Result<Path, Memory> {
     Path::top(alloc)?.child(&Name::new(alloc, b"q")?, 1)
 }
 
+// How many steps a path has from which another grew, and that one.
+fn lengths(alloc: Global) -> Result<(usize, usize), Memory> {
+    let shorter = outer(alloc)?;
+    let longer = inner(&shorter, alloc)?;
+    Ok((shorter.steps().len(), longer.steps().len()))
+}
+
 #[test]
 fn paths_grow_by_a_step(rt: HostRuntime) -> Result<(), Fail> {
     let alloc = rt.alloc();
+    assert_eq!(rt; lengths(alloc)?, (1, 2));
     let path = inner(&outer(alloc)?, alloc)?;
-    assert_eq!(rt; path.steps().len(), 2);
     for (step, (name, nth)) in path.steps().iter().zip([("q", 1), ("r", 2)]) {
         assert_eq!(rt; (step.name.get(), step.nth), (name.as_bytes(), nth));
     }

@@ -308,6 +308,7 @@ fn versions_are_shown_and_gone_back_to(rt: HostRuntime) -> Result<(), Fail> {
     assert_eq!(rt; texts.back(Version(2)), Ok(Version(4)));
     assert!(rt; is_text(&texts, 3, "de\n")?);
     assert!(rt; is_text(&texts, 4, "abc\n\nde\n")?);
+    assert_eq!(rt; count(&texts, 3), Some(1));
     Ok(())
 }
 
