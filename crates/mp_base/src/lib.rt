@@ -5,7 +5,7 @@
 #![tactic(auto)]
 
 mod bytes;
-mod laws;
+pub mod laws;
 mod limits;
 mod memory;
 mod name;
@@ -17,7 +17,6 @@ mod steps;
 mod text;
 
 pub use bytes::Bytes;
-pub use laws::{bytes_of_lines, cut_in_pieces, lines_of_bytes, one_cut, place_is_the_byte};
 pub use limits::{
     ACTIVATION_LIMIT, CELL_LIMIT, COMMAND_LIMIT, DECLARATION_LIMIT, DEPTH_LIMIT, LINE_LIMIT,
     MAXINT, OPENER_LIMIT, OUTPUT_LIMIT, SCRIPT_LIMIT, STEP_LIMIT, TEXT_LIMIT, VERSION_LIMIT,
