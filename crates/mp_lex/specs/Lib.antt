@@ -7,3 +7,4 @@ pub mod Meaning
 pub mod Lexed
 pub mod Order
 pub mod Lengths
+pub mod FirstLetters

@@ -18,7 +18,6 @@ mod strings;
 mod symbols;
 mod words;
 
-pub use cause::Cause;
 pub use laws::{one_split, two_bytes_decide, words_are_found};
 pub use lexer::lex;
 pub use mp_ast::{LexError, LexErrors, Lexed, Symbol, Token, TokenKind, Tokens, WordSymbol};
