@@ -27,7 +27,7 @@ abbrev declaration_of : PlainDeclaration → Declaration
 declaration_of d = record { heading = heading_of d.heading; semicolon = d.semicolon; body = d.body }
 
 abbrev statement_part_of : PlainStatementPart → StatementPart
-statement_part_of p = Compound p.at (statement_list p.statements) p.end
+statement_part_of (plain.Compound begin statements end) = Compound begin (statement_list statements) end
 
 abbrev type_definition_with : TypeDefinition → Denoter → TypeDefinition
 type_definition_with d of = record { name = d.name; of = of; semicolon = d.semicolon }
@@ -46,7 +46,7 @@ same_declarations (d ∷ l) =
     ap (λ h. declaration_with d h ∷ map declaration_of (map plain_declaration l)) (heading_told d.heading) ∙ ap (λ r. d ∷ r) (same_declarations l)
 
 same_part : (p : StatementPart) → statement_part_of (plain_statement_part p) ≡ p
-same_part (Compound at statements end) = ap (λ l. Compound at l end) (same_statements statements)
+same_part (Compound begin statements end) = ap (λ l. Compound begin l end) (same_statements statements)
 
 -- the parts of a block that its plain form has in another form
 abbrev block_with : Block → List TypeDefinition → List (Section Denoter) → List Declaration → StatementPart → Block

@@ -35,7 +35,7 @@ abbrev mutual
   denoter_of (plain.Enumeration at constants) = tree.Enumeration at constants
   denoter_of (plain.Subrange first last) = tree.Subrange first last
   denoter_of (plain.Pointer at domain) = tree.Pointer at domain
-  denoter_of (plain.Array packed indices component) = tree.Array packed (index_list indices) (denoter_of component)
+  denoter_of (plain.Array at packed indices component) = tree.Array at packed (index_list indices) (denoter_of component)
   denoter_of (plain.Record at packed fields) = tree.Record at packed (denoter_of fields)
   denoter_of (plain.Set at packed base) = tree.Set at packed (denoter_of base)
   denoter_of (plain.File at file component) = tree.File at file (denoter_of component)
@@ -114,9 +114,10 @@ node_told (Denoter-F.Named name) = at_variant _ _ _ (tree.rolls-Named name) (pla
 node_told (Denoter-F.Enumeration at constants) = at_variant _ _ _ (tree.rolls-Enumeration at constants) (plain_denoter-Enumeration at constants) refl
 node_told (Denoter-F.Subrange first last) = at_variant _ _ _ (tree.rolls-Subrange first last) (plain_denoter-Subrange first last) refl
 node_told (Denoter-F.Pointer at domain) = at_variant _ _ _ (tree.rolls-Pointer at domain) (plain_denoter-Pointer at domain) refl
-node_told (Denoter-F.Array packed indices component) =
-    at_variant _ _ _ (tree.rolls-Array packed _ component.0) (plain_denoter-Array packed _ component.0)
-    (ap (λ l. tree.Array packed l (denoter_of (plain_denoter component.0))) (indices-told untold told _ (λ _. refl) indices) ∙ ap (tree.Array packed _) component.1)
+node_told (Denoter-F.Array at packed indices component) =
+    at_variant _ _ _ (tree.rolls-Array at packed _ component.0) (plain_denoter-Array at packed _ component.0)
+    (ap (λ l. tree.Array at packed l (denoter_of (plain_denoter component.0))) (indices-told untold told _ (λ _. refl) indices) ∙
+    ap (tree.Array at packed _) component.1)
 node_told (Denoter-F.Record at packed fields) = at_variant _ _ _ (tree.rolls-Record at packed fields.0) (plain_denoter-Record at packed fields.0) (ap (tree.Record at packed) fields.1)
 node_told (Denoter-F.Set at packed base) = at_variant _ _ _ (tree.rolls-Set at packed base.0) (plain_denoter-Set at packed base.0) (ap (tree.Set at packed) base.1)
 node_told (Denoter-F.File at file component) = at_variant _ _ _ (tree.rolls-File at file component.0) (plain_denoter-File at file component.0) (ap (tree.File at file) component.1)

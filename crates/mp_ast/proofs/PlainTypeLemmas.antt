@@ -65,11 +65,14 @@ unfolding plain_denoter
 plain_denoter-Pointer at domain =
     ap plain_denoter (sym (tree.rolls-Pointer at domain)) ∙ fold-roll-Denoter PlainDenoter layer_denoter (Denoter-F.Pointer at domain)
 
-pub plain_denoter-Array : (packed : Bool) (indices : List (Index Denoter)) (component : Denoter) → plain_denoter (tree.Array packed indices component) ≡ plain.Array packed (indices_of plain_denoter indices) (plain_denoter component)
+pub plain_denoter-Array :
+    (at : ℕ) (packed : Bool) (indices : List (Index Denoter)) (component : Denoter) →
+    plain_denoter (tree.Array at packed indices component) ≡ plain.Array at packed (indices_of plain_denoter indices) (plain_denoter component)
 unfolding plain_denoter
-plain_denoter-Array packed indices component =
-    ap plain_denoter (sym (tree.rolls-Array packed indices component)) ∙ fold-roll-Denoter PlainDenoter layer_denoter (Denoter-F.Array packed indices component) ∙
-    ap (λ l. plain.Array packed l (plain_denoter component)) (indices_of-map plain_denoter itself _ (λ _. refl) indices)
+plain_denoter-Array at packed indices component =
+    ap plain_denoter (sym (tree.rolls-Array at packed indices component)) ∙
+    fold-roll-Denoter PlainDenoter layer_denoter (Denoter-F.Array at packed indices component) ∙
+    ap (λ l. plain.Array at packed l (plain_denoter component)) (indices_of-map plain_denoter itself _ (λ _. refl) indices)
 
 pub plain_denoter-Record : (at : ℕ) (packed : Bool) (fields : Denoter) → plain_denoter (tree.Record at packed fields) ≡ plain.Record at packed (plain_denoter fields)
 unfolding plain_denoter

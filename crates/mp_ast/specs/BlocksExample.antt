@@ -25,7 +25,7 @@ use Rattle.mp_ast.specs.PlainExpressions.{NoActuals}
 use Rattle.mp_ast.specs.PlainStatements.{PlainStatement, NoStatements, Sequence, Empty, Call}
 use Rattle.mp_ast.specs.PlainTypes.{NoSections}
 use Rattle.mp_ast.specs.PlainHeadings.{NoFormals}
-use Rattle.mp_ast.specs.PlainTrees.{PlainDeclaration, PlainBlock, PlainTree, TreeOf, NoTrees, Beside}
+use Rattle.mp_ast.specs.PlainTrees.{PlainDeclaration, PlainBlock, PlainTree, Compound, TreeOf, NoTrees, Beside}
 
 abbrev identifier : ℕ → List ℕ → Identifier
 identifier at name = record { at = at; name = name }
@@ -45,7 +45,7 @@ block program declarations begin statement end tokens =
       types = [];
       variables = NoSections;
       declarations = declarations;
-      statements = record { at = begin; statements = Sequence statement NoStatements; end = end };
+      statements = Compound begin (Sequence statement NoStatements) end;
       tokens = tokens;
     }
 

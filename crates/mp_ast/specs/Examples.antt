@@ -244,7 +244,7 @@ type_tokens =
 abbrev fixed_part : Section Denoter
 fixed_part = record {
   names = named 2 a ∷ named 4 b ∷ [];
-  of = denoters.Array false (record { at = 6; of = type_named 8 c } ∷ record { at = 9; of = denoters.Subrange (constant 10 1) (constant 12 9) } ∷ []) (type_named 15 c);
+  of = denoters.Array 6 false (record { at = 6; of = type_named 8 c } ∷ record { at = 9; of = denoters.Subrange (constant 10 1) (constant 12 9) } ∷ []) (type_named 15 c);
 }
 
 -- 1: (f: ^n)

@@ -8,7 +8,7 @@ use Rattle.mp_ast.specs.declared.blocks.TypeDefinition.{TypeDefinition}
 use Rattle.mp_ast.specs.declared.blocks.DeclaredBody.{DeclaredBody}
 use Rattle.mp_ast.specs.declared.blocks.Declaration.{Declaration}
 use Rattle.mp_ast.specs.declared.blocks.StatementPart.{StatementPart}
-use Rattle.mp_ast.specs.declared.blocks.StatementPart.TheVariants.{Compound}
+use Rattle.mp_ast.specs.declared.blocks.StatementPart.TheVariants as part
 use Rattle.mp_ast.specs.declared.blocks.Block.{Block}
 use Rattle.mp_ast.specs.declared.blocks.Tree.{Tree, fold-Tree}
 use Rattle.mp_ast.specs.declared.blocks.Tree.TheOpen.{Tree-F}
@@ -28,11 +28,13 @@ pub record PlainDeclaration : Type 0 where
   pub semicolon : ℕ
   pub body : DeclaredBody
 
--- the statement part, with the ordinals of its `begin` and its `end`
-pub record PlainStatementPart : Type 0 where
-  pub at : ℕ
-  pub statements : PlainStatements
-  pub end : ℕ
+-- The variants are those of `StatementPart`: the statements, with the ordinals of the `begin` before them and of the `end`.
+pub data PlainStatementPart : Type 0 where
+  Compound : (begin : ℕ) → PlainStatements → (end : ℕ) → PlainStatementPart
+
+-- the statements of a statement part
+abbrev pub statements_of_part : PlainStatementPart → PlainStatements
+statements_of_part (Compound begin statements end) = statements
 
 pub record PlainBlock : Type 0 where
   pub program : Option ProgramHeading
@@ -63,7 +65,7 @@ abbrev pub plain_declaration : Declaration → PlainDeclaration
 plain_declaration d = record { heading = plain_heading d.heading; semicolon = d.semicolon; body = d.body }
 
 abbrev pub plain_statement_part : StatementPart → PlainStatementPart
-plain_statement_part (Compound at statements end) = record { at = at; statements = plain_statements statements; end = end }
+plain_statement_part (part.Compound begin statements end) = Compound begin (plain_statements statements) end
 
 abbrev pub plain_block : Block → PlainBlock
 plain_block b =

@@ -16,7 +16,7 @@ mutual
     Enumeration : (at : ℕ) → (constants : List Identifier) → PlainDenoter
     Subrange : (first last : Constant) → PlainDenoter
     Pointer : (at : ℕ) → (domain : Identifier) → PlainDenoter
-    Array : (packed : Bool) → PlainIndices → (component : PlainDenoter) → PlainDenoter
+    Array : (at : ℕ) → (packed : Bool) → PlainIndices → (component : PlainDenoter) → PlainDenoter
     Record : (at : ℕ) → (packed : Bool) → (fields : PlainDenoter) → PlainDenoter
     Set : (at : ℕ) → (packed : Bool) → (base : PlainDenoter) → PlainDenoter
     File : (at file : ℕ) → (component : PlainDenoter) → PlainDenoter
@@ -68,7 +68,7 @@ layer_denoter (Denoter-F.Named name) = Named name
 layer_denoter (Denoter-F.Enumeration at constants) = Enumeration at constants
 layer_denoter (Denoter-F.Subrange first last) = Subrange first last
 layer_denoter (Denoter-F.Pointer at domain) = Pointer at domain
-layer_denoter (Denoter-F.Array packed indices component) = Array packed (indices_of itself indices) component
+layer_denoter (Denoter-F.Array at packed indices component) = Array at packed (indices_of itself indices) component
 layer_denoter (Denoter-F.Record at packed fields) = Record at packed fields
 layer_denoter (Denoter-F.Set at packed base) = Set at packed base
 layer_denoter (Denoter-F.File at file component) = File at file component

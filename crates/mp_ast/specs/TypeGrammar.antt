@@ -91,6 +91,7 @@ module _ (room : ℕ) (behind : Deeper) where
   first_of (Some packed) at = packed
 
   -- "array" "[" simple {"," simple} "]" "of" type
+  -- The array with the first index type is the denoter itself, and stands at the same token.
   abbrev pub array_type : Option ℕ → Rule Denoter
   array_type packed = do
     at ← structure_word packed w.Array
@@ -99,7 +100,7 @@ module _ (room : ℕ) (behind : Deeper) where
     more ← many further_index
     symbol s.RightBracket
     word w.Of
-    d.Array (is_packed packed) (record { at = first_of packed at; of = of } ∷ more) <$> behind.denoter
+    d.Array (first_of packed at) (is_packed packed) (record { at = first_of packed at; of = of } ∷ more) <$> behind.denoter
 
   -- "record" fields "end"
   abbrev pub record_type : Option ℕ → Rule Denoter

@@ -75,7 +75,7 @@ pub fn plain_type_forms()
     ensures enumeration { (at : ℕ) (constants : List Identifier) → plain_denoter (denoter.Enumeration at constants) ≡ PlainDenoter.Enumeration at constants }
     ensures subrange { (first last : Constant) → plain_denoter (denoter.Subrange first last) ≡ PlainDenoter.Subrange first last }
     ensures pointer_type { (at : ℕ) (domain : Identifier) → plain_denoter (denoter.Pointer at domain) ≡ PlainDenoter.Pointer at domain }
-    ensures array_type { (packed : Bool) (indices : List (Index Denoter)) (component : Denoter) → plain_denoter (denoter.Array packed indices component) ≡ PlainDenoter.Array packed (indices_of plain_denoter indices) (plain_denoter component) }
+    ensures array_type { (at : ℕ) (packed : Bool) (indices : List (Index Denoter)) (component : Denoter) → plain_denoter (denoter.Array at packed indices component) ≡ PlainDenoter.Array at packed (indices_of plain_denoter indices) (plain_denoter component) }
     ensures record_type { (at : ℕ) (packed : Bool) (fields : Denoter) → plain_denoter (denoter.Record at packed fields) ≡ PlainDenoter.Record at packed (plain_denoter fields) }
     ensures set_type { (at : ℕ) (packed : Bool) (base : Denoter) → plain_denoter (denoter.Set at packed base) ≡ PlainDenoter.Set at packed (plain_denoter base) }
     ensures file_type { (at file : ℕ) (component : Denoter) → plain_denoter (denoter.File at file component) ≡ PlainDenoter.File at file (plain_denoter component) }

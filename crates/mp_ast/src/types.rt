@@ -45,8 +45,8 @@ pub enum Denoter {
     Subrange(Constant, Constant),
     /// The ordinal of `^`, and the domain type.
     Pointer(u32, Identifier),
-    /// Whether it is packed, the index types, and the component type.
-    Array(bool, Items<Index<Denoter>>, Boxed<Denoter>),
+    /// The ordinal of the first token, whether it is packed, the index types, and the component type.
+    Array(u32, bool, Items<Index<Denoter>>, Boxed<Denoter>),
     /// The ordinal of the first token, whether it is packed, and the field list.
     Record(u32, bool, Boxed<Denoter>),
     /// The ordinal of the first token, whether it is packed, and the base type.
