@@ -37,7 +37,7 @@ words_letter line i words next last more h s e n k =
 pub words_end : (line : List ℕ) (i : ℕ) (words : List (List ℕ)) (last : List ℕ) {all : List (List ℕ)} → length line ≤ i → words ++ words_from last (drop i line) ≡ all → words ++ word_of last ≡ all
 words_end line i words last h e = ap (λ ws. words ++ ws) (sym (from_none last)) ∙ ap (λ t. words ++ words_from last t) (sym (drop_all i line h)) ∙ e
 
-one_longer : (v : Bool) (k : ℕ) → cond (v && suc k == 0) 0 (1 + suc k) ≡ suc k + 1
+pub one_longer : (v : Bool) (k : ℕ) → cond (v && suc k == 0) 0 (1 + suc k) ≡ suc k + 1
 one_longer true k =
     let e : 1 + suc k ≡ suc k + 1 = omega arith in
     cond-false (suc k == 0) 0 (1 + suc k) (eqb-suc-zero k) ∙ e

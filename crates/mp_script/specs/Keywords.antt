@@ -25,7 +25,11 @@ spelling keyword.Kill = codes "kill"
 spelling keyword.Quit = codes "quit"
 
 abbrev pub keywords : List Keyword
-keywords = keyword.Insert ∷ keyword.Delete ∷ keyword.Replace ∷ keyword.Sub ∷ keyword.Back ∷ keyword.Text ∷ keyword.Listing ∷ keyword.Ready ∷ keyword.Input ∷ keyword.Break ∷ keyword.Clear ∷ keyword.Run ∷ keyword.Go ∷ keyword.Step ∷ keyword.Show ∷ keyword.Where ∷ keyword.Kill ∷ keyword.Quit ∷ []
+keywords =
+    keyword.Insert ∷ keyword.Delete ∷ keyword.Replace ∷ keyword.Sub ∷ keyword.Back ∷
+    keyword.Text ∷ keyword.Listing ∷ keyword.Ready ∷ keyword.Input ∷ keyword.Break ∷
+    keyword.Clear ∷ keyword.Run ∷ keyword.Go ∷ keyword.Step ∷
+    keyword.Show ∷ keyword.Where ∷ keyword.Kill ∷ keyword.Quit ∷ []
 
 -- the keyword that is spelled so; letter case counts
 unfoldable pub keyword_of : List ℕ → Option Keyword

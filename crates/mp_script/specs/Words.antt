@@ -75,7 +75,7 @@ abbrev pub IsTrimmed : List ℕ → Type 0
 IsTrimmed bytes = 0 < length bytes → (is_separator (slice_index bytes 0) ≡ false) × (is_separator (slice_index bytes (length bytes - 1)) ≡ false)
 
 -- What `behind_word` means: the line is its first word and these bytes, with separators before, between and behind
--- them.
+-- them. Where there is no word there are no such bytes, so the word is the line's first where the line has one.
 pub record IsBehindWord (line found : List ℕ) : Type 0 where
   pub before : List ℕ
   pub word : List ℕ
@@ -86,3 +86,8 @@ pub record IsBehindWord (line found : List ℕ) : Type 0 where
   pub letters : IsTrue (list_all is_word_byte word)
   pub ends : IsTrue (ends_word (between ++ (found ++ after)))
   pub trimmed : IsTrimmed found
+  pub first : word ≡ [] → found ≡ []
+
+-- bytes stand behind a line's first word, and no others do
+abbrev pub HasOneBehindWord : List ℕ → Type 0
+HasOneBehindWord line = IsBehindWord line (behind_word line) × ((found : List ℕ) → IsBehindWord line found → found ≡ behind_word line)

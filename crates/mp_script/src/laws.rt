@@ -2,7 +2,7 @@
 ghost use Rattle.std.specs.Prelude.{List, ℕ};
 ghost use Rattle.mp_script.specs.Access.{IsFormTested};
 ghost use Rattle.mp_script.specs.Keywords.{IsFoundBySpelling};
-ghost use Rattle.mp_script.specs.Words.{HasItsWords, IsBehindWord, behind_word};
+ghost use Rattle.mp_script.specs.Words.{HasItsWords, HasOneBehindWord};
 ghost use Rattle.mp_script.specs.declared.access.Part.{Part};
 ghost use Rattle.mp_script.specs.declared.keywords.Keyword.{Keyword};
 
@@ -21,7 +21,8 @@ pub fn access_form_is_tested()
     ensures { (parts : List Part) → IsFormTested parts }
 {}
 
-/// What stands behind a line's first word is kept as it stands there, without the separators at its ends.
+/// What stands behind a line's first word is kept as it stands there, without the separators at its ends, and is the
+/// only one such text: where the line has a word, that word is left out, and where it has none, nothing is found.
 pub fn behind_the_first_word()
-    ensures { (line : List ℕ) → IsBehindWord line (behind_word line) }
+    ensures { (line : List ℕ) → HasOneBehindWord line }
 {}
