@@ -236,7 +236,7 @@ module _ (room : ℕ) (q : p.Deeper) (r : g.Deeper) (behind : (n : ℕ) → room
       law_as (regrouped (λ of. map_then (λ more. an_index (p.first_of packed at) of ∷ more) _))
       (law_then (law_index_types (p.first_of packed at)) refl (λ indices.
       law_then (law_symbol s.RightBracket) refl (λ closing.
-      law_then (law_word w.Of) refl (λ of. law_map (d.Array (p.is_packed packed) indices) laws.denoter))))))
+      law_then (law_word w.Of) refl (λ of. law_map (d.Array (p.first_of packed at) (p.is_packed packed) indices) laws.denoter))))))
 
   law_record_type : (packed : Option ℕ) → Opened packed → Law (finishes packed) (is (Word w.Record)) any (p.record_type room q packed) (g.record_type room r packed)
   unfolding p.record_type

@@ -152,7 +152,7 @@ module _ (room : ℕ) (behind : Deeper) where
     indices ← index_types (first_of packed at)
     expect (Symbol s.RightBracket)
     expect (Word w.Of)
-    d.Array (is_packed packed) indices <$> behind.denoter
+    d.Array (first_of packed at) (is_packed packed) indices <$> behind.denoter
 
   unfoldable pub record_type : Option ℕ → Parser Denoter
   record_type packed = do

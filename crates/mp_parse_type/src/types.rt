@@ -142,13 +142,14 @@ fn array_type(
     requires { HasOpened packed room }
     ensures { Reads (spec.array_type room (behind room) packed tokens.old) result tokens.new }
 {
-    let at = structure_word(tokens, room, packed, WordSymbol::Array)?;
+    let word = structure_word(tokens, room, packed, WordSymbol::Array)?;
+    let at = packed.unwrap_or(word);
     tokens.expect(Next::Symbol(Symbol::LeftBracket))?;
-    let indices = index_types(alloc, tokens, packed.unwrap_or(at))?;
+    let indices = index_types(alloc, tokens, at)?;
     tokens.expect(Next::Symbol(Symbol::RightBracket))?;
     tokens.expect(Next::Word(WordSymbol::Of))?;
     let of = Boxed::new(alloc, denoter(alloc, tokens, room - 1)?)?;
-    Ok(Denoter::Array(packed.is_some(), indices, of))
+    Ok(Denoter::Array(at, packed.is_some(), indices, of))
 }
 
 #[cycle(denoters)]

@@ -67,7 +67,7 @@ fn fields(out: &mut Written, x: &Denoter) -> Outcome {
 #[cycle(types)]
 fn structure(out: &mut Written, x: &Denoter) -> Outcome {
     match x {
-        Denoter::Array(is_packed, indices, component) => {
+        Denoter::Array(_, is_packed, indices, component) => {
             out.open_word("array")?;
             packed(out, *is_packed)?;
             for x in indices.as_slice() {
