@@ -2,7 +2,7 @@ use crate::leaves::{CharacterString, Identifier, Number, Sign};
 use sqlite_items::{Boxed, Items};
 
 /// An operator between two operands (ISO 7185, 6.7.2).
-#[derive(Clone, Copy)]
+#[derive(Clone, Copy, PartialEq)]
 pub enum Operator {
     Equal,
     NotEqual,

@@ -26,7 +26,7 @@ pub struct CharacterString {
 }
 
 /// Which sign stands before a term or a constant (ISO 7185, 6.1.5).
-#[derive(Clone, Copy)]
+#[derive(Clone, Copy, PartialEq)]
 pub enum SignKind {
     Plus,
     Minus,

@@ -4,13 +4,14 @@
 //! their spellings (ISO 7185, 6.1), and the syntax trees of programs (6.2 to 6.10). Its `specs/` say which tree a list
 //! of tokens has, with which tokens a program begins, and where a list of tokens first goes wrong; what each tree is as
 //! plain data, which blocks a tree has, and where in the text the own tokens of each stand. It is data alone: it never
-//! lexes, parses or prints. It promises how each word-symbol is written, that its lists are lists, and that a block's
-//! own tree has at most 262,144 tokens; and of its definitions, that nothing of a tree is lost in plain data, that each
-//! block has a path of its own, and that each token of a program is an own token of exactly one block. It stands on
-//! `mp_base`.
+//! lexes, parses or prints. It promises how each word-symbol is written, that its lists are lists, that a block's own
+//! tree has at most 262,144 tokens, and that two own trees, or two parts of one kind, are told to be the same exactly
+//! where they are; and of its definitions, that nothing of a tree is lost in plain data, that each block has a path of
+//! its own, and that each token of a program is an own token of exactly one block. It stands on `mp_base`.
 #![tactic(auto)]
 
 mod blocks;
+mod equality;
 mod errors;
 mod examples;
 mod expressions;
@@ -28,6 +29,7 @@ pub use blocks::{
     Block, BlockTree, ConstantDefinition, Declaration, DeclaredBody, ProgramHeading, StatementPart,
     Tree, TypeDefinition,
 };
+pub use equality::Same;
 pub use errors::{LexError, LexErrors};
 pub use examples::{
     expression_example, first_error_example, heading_example, program_example, statement_example,

@@ -3,7 +3,7 @@ use crate::leaves::{Constant, Identifier, Number};
 use sqlite_items::{Boxed, Items};
 
 /// Which way a `for` statement counts (ISO 7185, 6.8.3.9).
-#[derive(Clone, Copy)]
+#[derive(Clone, Copy, PartialEq)]
 pub enum Direction {
     To,
     Downto,
