@@ -15,9 +15,10 @@ interrupted_is : (k : ErrorKind) → k ≡ kind.Interrupted → is_interrupt k �
 unfolding is_interrupt
 interrupted_is k e = ap is_interrupt e
 
-decided : (k : ErrorKind) → Decides (is_interrupt k) (k ≡ kind.Interrupted)
-decided k = (only_interrupted k, interrupted_is k)
+-- interruptions are of one kind
+pub interrupt_decided : (k : ErrorKind) → Decides (is_interrupt k) (k ≡ kind.Interrupted)
+interrupt_decided k = (only_interrupted k, interrupted_is k)
 
 -- a test for the kind is the definition
 pub interrupt_told : (k : ErrorKind) (r : Bool) → (IsTrue r ↔ (k ≡ kind.Interrupted)) → r ≡ is_interrupt k
-interrupt_told k r h = same_from_decides r (is_interrupt k) h (decided k)
+interrupt_told k r h = same_from_decides r (is_interrupt k) h (interrupt_decided k)
