@@ -1,3 +1,4 @@
 pub mod CausesLemmas
 pub mod ToldLemmas
 pub mod PiecesLemmas
+pub mod InterruptLemmas

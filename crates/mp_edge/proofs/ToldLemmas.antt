@@ -3,7 +3,7 @@ use Rattle.std.proofs.Common.{◌≡◌, ℕ, ◌+◌, ◌-◌, List, [], ◌++�
 use Rattle.std.proofs.lemmas.List.{append_assoc, append-nil, take_rest, length-drop, take-append-drop}
 use Rattle.std.proofs.Math.Seq.{take-add}
 use Rattle.std.specs.Io.KnownBytes.{Consumes}
-use Rattle.mp_edge.specs.Told.{Grows, GrowsPartly, IfTold}
+use Rattle.mp_edge.specs.Told.{Grows, GrowsPartly}
 
 pub grows_none : (a : Option (List ℕ)) → Grows a a []
 grows_none None = tt
@@ -30,12 +30,6 @@ part_within bytes at n h k = omega (arith, ap length (take_rest bytes at), lengt
 -- some bytes were written, and then a write failed
 pub partly_failed : (a b c : Option (List ℕ)) (bytes : List ℕ) (at : ℕ) → Grows a b (take at bytes) → Grows b c [] → GrowsPartly a c bytes
 partly_failed a b c bytes at h k = (take at bytes, rw append-nil at (grows_more a b c (take at bytes) [] h k), (drop at bytes, sym (take-append-drop at bytes)))
-
--- the bytes that were added have what holds of them
-pub told : (a b : Option (List ℕ)) (x : List ℕ) (P : List ℕ → Type 0) → Grows a b x → P x → IfTold a b P
-told (Some a) (Some b) x P h p = (x, h, p)
-told (Some a) None x P h p = tt
-told None b x P h p = tt
 
 pub consumes_none : (a : Option (List ℕ)) → Consumes a a []
 consumes_none None = tt

@@ -43,6 +43,11 @@ abbrev pub write_failed : Put → Bool
 write_failed (put.Took n) = false
 write_failed put.Failed = true
 
+-- a call ended with an error of which this holds
+abbrev pub failed_by : {A E : Type 0} → (E → Bool) → Result A E → Bool
+failed_by holds (Ok x) = false
+failed_by holds (Err e) = holds e
+
 -- What std's answer to a read with room means: no byte is the end.
 abbrev pub got_of : {E : Type 0} → Result ℕ E → Got
 got_of (Ok zero) = got.End

@@ -8,12 +8,6 @@ Grows (Some old) None bytes = ⊤
 Grows None (Some new) bytes = ⊥
 Grows None None bytes = ⊤
 
--- what was added from old to new has P, where both are told
-abbrev pub IfTold : Option (List ℕ) → Option (List ℕ) → (List ℕ → Type 0) → Type 0
-IfTold (Some old) (Some new) P = (bytes : List ℕ) × (new ≡ old ++ bytes) × P bytes
-IfTold (Some old) None P = ⊤
-IfTold None new P = ⊤
-
 -- these bytes stand at the front of those
 abbrev pub IsFront : List ℕ → List ℕ → Type 0
 IsFront front bytes = (rest : List ℕ) × (bytes ≡ front ++ rest)

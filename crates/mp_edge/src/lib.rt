@@ -8,6 +8,7 @@
 #![tactic(auto)]
 
 mod counting;
+pub mod laws;
 mod mem_sink;
 mod mem_source;
 mod sink;

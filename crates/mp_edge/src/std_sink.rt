@@ -1,8 +1,8 @@
-ghost use Rattle.std.specs.Prelude.{◌≡◌, ◌≤◌, ◌+◌, None, length};
+ghost use Rattle.std.specs.Prelude.{◌≡◌, ◌≢◌, ◌≤◌, ◌+◌, ◌⊎◌, None, length};
 ghost use Rattle.std.specs.Io.KnownBytes.{Appends};
-ghost use Rattle.mp_edge.specs.Causes.{Rose, counted};
+ghost use Rattle.mp_edge.specs.Causes.{Rose, RoseBy, counted};
 ghost use Rattle.mp_edge.specs.Answers.{accepted, write_failed, IsPart};
-ghost use Rattle.mp_edge.specs.Adapters.{failure_count, fault_count, writer_of};
+ghost use Rattle.mp_edge.specs.Adapters.{failure_count, fault_count, hard_fault_count, writer_of};
 
 use crate::counting::count;
 use crate::sink::{Put, Sink};
@@ -27,6 +27,7 @@ impl<W: Write> StdSink<W> {
     pub fn new(writer: W) -> StdSink<W>
         ensures writer { writer_of result ≡ writer }
         ensures faults { fault_count result ≡ 0 }
+        ensures hard { hard_fault_count result ≡ 0 }
         ensures failures { failure_count result ≡ 0 }
     {
         StdSink {
@@ -52,9 +53,14 @@ impl<W: Write> Sink for StdSink<W> {
 
         // What goes wrong.
         ensures later { fault_count self.old ≤ fault_count self.new }
-        ensures tries { fault_count self.new ≤ fault_count self.old + TRIES }
         ensures failed { result ≡ Put.Failed → Rose (fault_count self.old) (fault_count self.new) }
         ensures failures { failure_count self.new ≡ counted (write_failed result) (failure_count self.old) }
+
+        // What is tried again.
+        ensures tries { fault_count self.new ≤ fault_count self.old + TRIES }
+        ensures hard { result ≢ Put.Failed → hard_fault_count self.new ≡ hard_fault_count self.old }
+        ensures once { hard_fault_count self.new ≤ hard_fault_count self.old + 1 }
+        ensures given_up { result ≡ Put.Failed → Rose (hard_fault_count self.old) (hard_fault_count self.new) ⊎ RoseBy TRIES (fault_count self.old) (fault_count self.new) }
     {
         if bytes.is_empty() {
             return Put::Took(0);
