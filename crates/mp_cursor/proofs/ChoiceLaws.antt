@@ -10,20 +10,23 @@ use Rattle.mp_cursor.proofs.NextSets.{within, apart, within_is, apart_is, in_fir
 use Rattle.mp_cursor.specs.Nexts.{either}
 use Rattle.mp_cursor.proofs.Settled.{settles_branch}
 use Rattle.mp_cursor.proofs.Recovery.{moves_or, recovers_branch, ends_left, ends_right}
-use Rattle.mp_cursor.proofs.Laws.{LawWhere, read, law_pure, law_map}
+use Rattle.mp_cursor.proofs.RuleLaws.{LawWhere, read, law_pure, law_map}
 
 abbrev Branched : {A : Type 0} → Rule A → Rule A → Parser A → Parser A → Input → A → Input → Bool → Type 0
 Branched r s p q i x j b = (if b then p i else q i) ≡ read x j → (r i x j) ⊎ (s i x j)
 
-branched : {P A : Type 0} {u v : Bool} {f g h : Nexts} {p q : Parser A} {r s : Rule A} → LawWhere P u f g p r → LawWhere P v h g q s → (i : Input) (x : A) (j : Input) (b : Bool) → Branched r s p q i x j b
+branched : {P A : Type 0} {u v : Bool} {f g h : Nexts} {p q : Parser A} {r s : Rule A} → LawWhere P u f g p r → LawWhere P v h g q s →
+    (i : Input) (x : A) (j : Input) (b : Bool) → Branched r s p q i x j b
 branched a c i x j true = λ h. inl (a.sound i x j h)
 branched a c i x j false = λ h. inr (c.sound i x j h)
 
-branched_shrinks : {P A : Type 0} {u v : Bool} {f g h : Nexts} {p q : Parser A} {r s : Rule A} → LawWhere P u f g p r → LawWhere P v h g q s → (i : Input) (x : A) (j : Input) (b : Bool) → (if b then p i else q i) ≡ read x j → length j.rest ≤ length i.rest
+branched_shrinks : {P A : Type 0} {u v : Bool} {f g h : Nexts} {p q : Parser A} {r s : Rule A} → LawWhere P u f g p r → LawWhere P v h g q s →
+    (i : Input) (x : A) (j : Input) (b : Bool) → (if b then p i else q i) ≡ read x j → length j.rest ≤ length i.rest
 branched_shrinks a c i x j true h = a.shrinks i x j h
 branched_shrinks a c i x j false h = c.shrinks i x j h
 
-module _ {P A : Type 0} {u v : Bool} {f h g : Nexts} {p q : Parser A} {r s : Rule A} (test : Nexts) (a : LawWhere P u f g p r) (inside : within f test ≡ true) (outside : apart h test ≡ true) (c : LawWhere P v h g q s) where
+module _ {P A : Type 0} {u v : Bool} {f h g : Nexts} {p q : Parser A} {r s : Rule A} (test : Nexts) (a : LawWhere P u f g p r)
+    (inside : within f test ≡ true) (outside : apart h test ≡ true) (c : LawWhere P v h g q s) where
   chosen : (i : Input) (x : A) (j : Input) → (r i x j) ⊎ (s i x j) → g (next_token j) ≡ true → branch test p q i ≡ read x j
   chosen i x j (inl d) e = ap (λ b. if b then p i else q i) (within_is f test inside (next_token i) (a.begins i x j d e)) ∙ a.complete i x j d e
   chosen i x j (inr d) e = ap (λ b. if b then p i else q i) (apart_is h test outside (next_token i) (c.begins i x j d e)) ∙ c.complete i x j d e
@@ -46,7 +49,8 @@ module _ {P A : Type 0} {u v : Bool} {f h g : Nexts} {p q : Parser A} {r s : Rul
   }
 
 -- the same, finished as the first
-pub law_branch_first : {P A : Type 0} {u v : Bool} {f h g : Nexts} {p q : Parser A} {r s : Rule A} (test : Nexts) → LawWhere P u f g p r → within f test ≡ true → apart h test ≡ true → LawWhere P v h g q s → LawWhere P u (either f h) g (branch test p q) (r <|>ʳ s)
+pub law_branch_first : {P A : Type 0} {u v : Bool} {f h g : Nexts} {p q : Parser A} {r s : Rule A} (test : Nexts) → LawWhere P u f g p r →
+    within f test ≡ true → apart h test ≡ true → LawWhere P v h g q s → LawWhere P u (either f h) g (branch test p q) (r <|>ʳ s)
 law_branch_first {r = r} {s = s} test a inside outside c =
     let w = law_branch test a inside outside c in
     record {
@@ -61,5 +65,6 @@ law_branch_first {r = r} {s = s} test a inside outside c =
     }
 
 -- what may be left out before the tokens that may follow
-pub law_optional : {P A : Type 0} {u : Bool} {f : Nexts} {p : Parser A} {r : Rule A} (test follow : Nexts) → LawWhere P u f follow p r → within f test ≡ true → apart follow test ≡ true → LawWhere P true (either f follow) follow (optional test p) (rule.optional r)
+pub law_optional : {P A : Type 0} {u : Bool} {f : Nexts} {p : Parser A} {r : Rule A} (test follow : Nexts) → LawWhere P u f follow p r →
+    within f test ≡ true → apart follow test ≡ true → LawWhere P true (either f follow) follow (optional test p) (rule.optional r)
 law_optional test follow a inside outside = law_branch test (law_map Some a) inside outside (law_pure None follow)

@@ -12,33 +12,25 @@ use Rattle.mp_cursor.specs.Nexts.{Nexts, is, any, either, among, but}
 use Rattle.mp_cursor.proofs.NextSets.{within_any, apart}
 use Rattle.mp_cursor.proofs.SameRules.{or_swapped}
 use Rattle.mp_cursor.specs.Leaves.{sign, signs, optional_sign, signed, signed_constant, constant, constants, identifiers}
-use Rattle.mp_cursor.proofs.Laws.{Law, law_then, law_map, law_pure, law_begun, law_followed, law_as, law_symbol, symbol_only}
+use Rattle.mp_cursor.specs.LeafTokens.{constant_begins, but_comma}
+use Rattle.mp_cursor.proofs.RuleLaws.{Law, law_then, law_map, law_pure, law_begun, law_followed, law_as, law_symbol, symbol_only}
 use Rattle.mp_cursor.proofs.LeafLaws.{law_identifier, law_number, law_string}
 use Rattle.mp_cursor.proofs.ChoiceLaws.{law_branch, law_optional}
 use Rattle.mp_cursor.proofs.ListLaws.{law_separated}
-
-abbrev pub comma : Nexts
-comma = is (next.Symbol s.Comma)
-
--- what may stand behind a list with commas
-abbrev pub but_comma : Nexts
-but_comma = but (next.Symbol s.Comma ∷ [])
 
 pub law_identifiers : Law true (is next.Identifier) but_comma identifiers (rule.separated (rule.symbol s.Comma) grammar.identifier)
 law_identifiers = law_separated (kind.Symbol s.Comma) (symbol_only s.Comma) but_comma law_identifier refl refl refl
 
 pub law_sign : Law true signs any sign grammar.sign
 unfolding sign
-law_sign = law_begun signs refl (law_branch (is (next.Symbol s.Plus)) (law_then (law_symbol s.Plus) refl (λ at. law_pure _ any)) refl refl (law_then (law_symbol s.Minus) refl (λ at. law_pure _ any)))
+law_sign =
+    law_begun signs refl (law_branch (is (next.Symbol s.Plus)) (law_then (law_symbol s.Plus) refl (λ at. law_pure _ any)) refl refl
+    (law_then (law_symbol s.Minus) refl (λ at. law_pure _ any)))
 
 -- before what begins with no sign
 pub law_optional_sign : (follow : Nexts) → apart follow signs ≡ true → Law true (either signs follow) follow optional_sign (rule.optional grammar.sign)
 unfolding optional_sign
 law_optional_sign follow e = law_optional signs follow (law_followed follow (within_any follow) law_sign) refl e
-
--- what a constant begins with
-abbrev pub constant_begins : Nexts
-constant_begins = among (next.Identifier ∷ next.Number ∷ next.Text ∷ next.Symbol s.Plus ∷ next.Symbol s.Minus ∷ [])
 
 abbrev unsigned : Nexts
 unsigned = among (next.Number ∷ next.Identifier ∷ [])

@@ -2,7 +2,7 @@ pub mod NextLemmas
 pub mod NextSets
 pub mod Settled
 pub mod Recovery
-pub mod Laws
+pub mod RuleLaws
 pub mod SameRules
 pub mod LeafLaws
 pub mod ChoiceLaws
@@ -11,3 +11,4 @@ pub mod SeriesLaws
 pub mod BlockLaws
 pub mod ConstantLaws
 pub mod LoopLemmas
+mod TokenLemmas

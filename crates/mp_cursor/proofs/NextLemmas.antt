@@ -13,10 +13,15 @@ use Rattle.mp_cursor.specs.declared.next.Next.TheVariants as next
 use Rattle.mp_cursor.specs.Nexts.{class_of, word_number, symbol_number, is}
 
 abbrev pub words : List WordSymbol
-words = w.And ∷ w.Array ∷ w.Begin ∷ w.Case ∷ w.Const ∷ w.Div ∷ w.Do ∷ w.Downto ∷ w.Else ∷ w.End ∷ w.File ∷ w.For ∷ w.Function ∷ w.Goto ∷ w.If ∷ w.In ∷ w.Label ∷ w.Mod ∷ w.Nil ∷ w.Not ∷ w.Of ∷ w.Or ∷ w.Packed ∷ w.Procedure ∷ w.Program ∷ w.Record ∷ w.Repeat ∷ w.Set ∷ w.Then ∷ w.To ∷ w.«Type» ∷ w.Until ∷ w.Var ∷ w.While ∷ w.With ∷ []
+words =
+    w.And ∷ w.Array ∷ w.Begin ∷ w.Case ∷ w.Const ∷ w.Div ∷ w.Do ∷ w.Downto ∷ w.Else ∷ w.End ∷ w.File ∷ w.For ∷ w.Function ∷ w.Goto ∷ w.If ∷ w.In ∷
+    w.Label ∷ w.Mod ∷ w.Nil ∷ w.Not ∷ w.Of ∷ w.Or ∷ w.Packed ∷ w.Procedure ∷ w.Program ∷ w.Record ∷ w.Repeat ∷ w.Set ∷ w.Then ∷ w.To ∷ w.«Type» ∷
+    w.Until ∷ w.Var ∷ w.While ∷ w.With ∷ []
 
 abbrev pub symbols : List Symbol
-symbols = s.Plus ∷ s.Minus ∷ s.Star ∷ s.Equal ∷ s.Less ∷ s.Greater ∷ s.LeftBracket ∷ s.RightBracket ∷ s.Dot ∷ s.Comma ∷ s.Colon ∷ s.Semicolon ∷ s.Caret ∷ s.LeftParen ∷ s.RightParen ∷ s.NotEqual ∷ s.LessEqual ∷ s.GreaterEqual ∷ s.Assign ∷ s.DotDot ∷ []
+symbols =
+    s.Plus ∷ s.Minus ∷ s.Star ∷ s.Equal ∷ s.Less ∷ s.Greater ∷ s.LeftBracket ∷ s.RightBracket ∷ s.Dot ∷ s.Comma ∷ s.Colon ∷ s.Semicolon ∷ s.Caret ∷
+    s.LeftParen ∷ s.RightParen ∷ s.NotEqual ∷ s.LessEqual ∷ s.GreaterEqual ∷ s.Assign ∷ s.DotDot ∷ []
 
 pub word_found : (v : WordSymbol) → slice_get words (word_number v) ≡ Some v
 word_found w.And = refl

@@ -47,8 +47,12 @@ module _ (f : Next → Bool) (e : on_every f ≡ true) where
   every next.Number = left_of (f next.Number) _ (right_of (f next.Identifier) _ of_leaves)
   every next.Text = left_of (f next.Text) (f next.End) (right_of (f next.Number) _ (right_of (f next.Identifier) _ of_leaves))
   every next.End = right_of (f next.Text) (f next.End) (right_of (f next.Number) _ (right_of (f next.Identifier) _ of_leaves))
-  every (next.Word v) = found (λ v. f (next.Word v)) words (word_number v) v (left_of (of_all (λ v. f (next.Word v)) words) (of_all (λ v. f (next.Symbol v)) symbols) (right_of leaves rest e)) (word_found v)
-  every (next.Symbol v) = found (λ v. f (next.Symbol v)) symbols (symbol_number v) v (right_of (of_all (λ v. f (next.Word v)) words) (of_all (λ v. f (next.Symbol v)) symbols) (right_of leaves rest e)) (symbol_found v)
+  every (next.Word v) =
+      found (λ v. f (next.Word v)) words (word_number v) v (left_of (of_all (λ v. f (next.Word v)) words) (of_all (λ v. f (next.Symbol v)) symbols)
+      (right_of leaves rest e)) (word_found v)
+  every (next.Symbol v) =
+      found (λ v. f (next.Symbol v)) symbols (symbol_number v) v (right_of (of_all (λ v. f (next.Word v)) words)
+      (of_all (λ v. f (next.Symbol v)) symbols) (right_of leaves rest e)) (symbol_found v)
 
 -- the one lies in the other
 abbrev pub within : Nexts → Nexts → Bool

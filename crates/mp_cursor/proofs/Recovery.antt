@@ -33,14 +33,16 @@ Moves {A} r = (i : Input) (x : A) (j : Input) → r i x j → Taken r i x j
 
 -- tokens with which the rule ends from a place on, whatever follows
 abbrev pub Ending : {A : Type 0} → Rule A → Input → Type 0
-Ending {A} r i = (more : List TokenKind) × (x : A) × (j : Input) × ((t : List TokenKind) → Open t → Open (more ++ t)) × ((t : List TokenKind) → Open t → r (put i (more ++ t)) x (put j t))
+Ending {A} r i =
+    (more : List TokenKind) × (x : A) × (j : Input) × ((t : List TokenKind) → Open t → Open (more ++ t)) × ((t : List TokenKind) → Open t → r (put i (more ++ t)) x (put j t))
 
 abbrev pub Ends : {A : Type 0} → Rule A → Type 0
 Ends r = (i : Input) → Ending r i
 
 -- the tokens before the last n, and an ending
 abbrev pub Front : {A : Type 0} → Rule A → Input → ℕ → Type 0
-Front {A} r i n = (c d more : List TokenKind) × (x : A) × (j : Input) × (i.rest ≡ c ++ d) × (length d ≡ n) × ((t : List TokenKind) → Open t → r (put i (c ++ (more ++ t))) x (put j t))
+Front {A} r i n =
+    (c d more : List TokenKind) × (x : A) × (j : Input) × (i.rest ≡ c ++ d) × (length d ≡ n) × ((t : List TokenKind) → Open t → r (put i (c ++ (more ++ t))) x (put j t))
 
 -- a parser that stops behind its first token
 abbrev pub Recovers : {A : Type 0} → Parser A → Rule A → Type 0
@@ -86,7 +88,13 @@ module _ {A B : Type 0} (r : Rule A) (s : A → Rule B) where
       let g = b d.0 d.1 y j d.3 in (
         f.0 ++ g.0,
         f.1 ∙ ap (λ ks. f.0 ++ ks) g.1 ∙ sym (append_assoc f.0 g.0 j.rest),
-        λ t h. (d.0, put d.1 (g.0 ++ t), subst (λ ks. r (put i ks) d.0 (put d.1 (g.0 ++ t))) (sym (append_assoc f.0 g.0 t)) (f.2 (g.0 ++ t) (instead_behind g.0 j.rest t d.1.rest g.1 h)), g.2 t h),
+        λ t h. (
+          d.0,
+          put d.1 (g.0 ++ t),
+          subst (λ ks. r (put i ks) d.0 (put d.1 (g.0 ++ t))) (sym (append_assoc f.0 g.0 t))
+              (f.2 (g.0 ++ t) (instead_behind g.0 j.rest t d.1.rest g.1 h)),
+          g.2 t h,
+        ),
       )
 
   pub ends_then : Ends r → ((x : A) → Ends (s x)) → Ends (r >>=ʳ s)
@@ -127,7 +135,8 @@ module _ {A B : Type 0} (r : Rule A) (s : A → Rule B) where
     λ t o. (
       x,
       put m (g.0 ++ (g.2 ++ t)),
-      subst (λ ks. r (put i ks) x (put m (g.0 ++ (g.2 ++ t)))) (sym (append_assoc f.0 g.0 (g.2 ++ t))) (f.2 (g.0 ++ (g.2 ++ t)) (same_instead g.0 g.1 (g.2 ++ t) m.rest g.5 (let q = g.6 in omega arith))),
+      subst (λ ks. r (put i ks) x (put m (g.0 ++ (g.2 ++ t)))) (sym (append_assoc f.0 g.0 (g.2 ++ t)))
+          (f.2 (g.0 ++ (g.2 ++ t)) (same_instead g.0 g.1 (g.2 ++ t) m.rest g.5 (let q = g.6 in omega arith))),
       g.7 t o,
     ),
   )
@@ -160,8 +169,10 @@ inside_by {A} p i e (Err f) s h =
 pub stops_inside : {A : Type 0} (p : Parser A) → Settles p → (i : Input) (e : Failure) → p i ≡ stopped e → (place e < length i.rest) ⊎ (place e ≡ length i.rest)
 stops_inside p s i e h = inside_by p i e (p i) (s i) h
 
-module _ {A B : Type 0} (p : Parser A) (q : A → Parser B) (r : Rule A) (s : A → Rule B) (sound : (i : Input) (x : A) (j : Input) → p i ≡ Ok (x, j) → r i x j) (moves : Moves r) (recovers : Recovers p r) (settles : (x : A) → Settles (q x)) (ends : (x : A) → Ends (s x)) (goes_on : (x : A) → Recovers (q x) (s x)) where
-  second : (i : Input) (x : A) (m : Input) (e : Failure) → p i ≡ Ok (x, m) → q x m ≡ stopped e → (n : ℕ) → n ≡ place e → (n < length m.rest) ⊎ (n ≡ length m.rest) → Front (r >>=ʳ s) i n
+module _ {A B : Type 0} (p : Parser A) (q : A → Parser B) (r : Rule A) (s : A → Rule B) (sound : (i : Input) (x : A) (j : Input) → p i ≡ Ok (x, j) →
+    r i x j) (moves : Moves r) (recovers : Recovers p r) (settles : (x : A) → Settles (q x)) (ends : (x : A) → Ends (s x)) (goes_on : (x : A) → Recovers (q x) (s x)) where
+  second : (i : Input) (x : A) (m : Input) (e : Failure) → p i ≡ Ok (x, m) → q x m ≡ stopped e → (n : ℕ) → n ≡ place e →
+      (n < length m.rest) ⊎ (n ≡ length m.rest) → Front (r >>=ʳ s) i n
   second i x m e h g n w (inl l) = front_second r s i x m n (moves i x m (sound i x m h)) (subst (Front (s x) m) (sym w) (goes_on x m e g (subst (λ k. k < length m.rest) w l))) l
   second i x m e h g n w (inr f) = front_between r s i x m n (moves i x m (sound i x m h)) (ends x m) f
 
@@ -195,7 +206,8 @@ ends_left r s a = ends_as r (r <|>ʳ s) (λ i x j d. inl d) a
 pub ends_right : {A : Type 0} (r s : Rule A) → Ends s → Ends (r <|>ʳ s)
 ends_right r s a = ends_as s (r <|>ʳ s) (λ i x j d. inr d) a
 
-recovers_by : {A : Type 0} (p q : Parser A) (r s : Rule A) → Recovers p r → Recovers q s → (i : Input) (e : Failure) (b : Bool) → (if b then p i else q i) ≡ stopped e → place e < length i.rest → Front (r <|>ʳ s) i (place e)
+recovers_by : {A : Type 0} (p q : Parser A) (r s : Rule A) → Recovers p r → Recovers q s → (i : Input) (e : Failure) (b : Bool) →
+    (if b then p i else q i) ≡ stopped e → place e < length i.rest → Front (r <|>ʳ s) i (place e)
 recovers_by p q r s a c i e true h l = recovers_as p r (r <|>ʳ s) (λ i x j d. inl d) a i e h l
 recovers_by p q r s a c i e false h l = recovers_as q s (r <|>ʳ s) (λ i x j d. inr d) c i e h l
 
@@ -216,7 +228,8 @@ open_by true h = absurd (let n : ⊥ = cc in n)
 open_by false h = refl
 
 pub ends_token : (k : TokenKind) → no_else k ≡ true → Ends (token k)
-ends_token k h i = (k ∷ [], i.at, record { at = i.at + 1; declared = i.declared; rest = [] }, λ t o. open_by (is (next.Word w.Else) (class_of k)) h, λ t o. (refl, refl, refl, refl))
+ends_token k h i =
+    (k ∷ [], i.at, record { at = i.at + 1; declared = i.declared; rest = [] }, λ t o. open_by (is (next.Word w.Else) (class_of k)) h, λ t o. (refl, refl, refl, refl))
 
 pub recovers_first : {A : Type 0} (p : Parser A) (r : Rule A) → ((i : Input) (e : Failure) → p i ≡ stopped e → place e ≡ length i.rest) → Recovers p r
 recovers_first p r a i e h l = let f = a i e h in absurd (let n : ⊥ = omega arith in n)
@@ -236,7 +249,8 @@ moves_many r a j _ _ (one_more x xs i m d ds) =
     let g = moves_many r a j xs m ds in (
       f.0 ++ g.0,
       f.1 ∙ ap (λ ks. f.0 ++ ks) g.1 ∙ sym (append_assoc f.0 g.0 j.rest),
-      λ t h. one_more x xs (put i ((f.0 ++ g.0) ++ t)) (put m (g.0 ++ t)) (subst (λ ks. r (put i ks) x (put m (g.0 ++ t))) (sym (append_assoc f.0 g.0 t)) (f.2 (g.0 ++ t) (instead_behind g.0 j.rest t m.rest g.1 h))) (g.2 t h),
+      λ t h. one_more x xs (put i ((f.0 ++ g.0) ++ t)) (put m (g.0 ++ t)) (subst (λ ks. r (put i ks) x (put m (g.0 ++ t)))
+          (sym (append_assoc f.0 g.0 t)) (f.2 (g.0 ++ t) (instead_behind g.0 j.rest t m.rest g.1 h))) (g.2 t h),
     )
 
 pub ends_many : {A : Type 0} (r : Rule A) → Ends (many r)
@@ -246,7 +260,8 @@ ends_many r i = ([], [], i, λ t o. o, λ t o. no_more)
 abbrev pub Stops : {A : Type 0} → Parser A → Rule A → Type 0
 Stops p r = (i : Input) (e : Failure) → p i ≡ stopped e → ((place e < length i.rest) × Front r i (place e)) ⊎ (place e ≡ length i.rest)
 
-stops_by : {A : Type 0} (r : Rule A) (i : Input) (n : ℕ) → (n < length i.rest) ⊎ (n ≡ length i.rest) → (n < length i.rest → Front r i n) → ((n < length i.rest) × Front r i n) ⊎ (n ≡ length i.rest)
+stops_by : {A : Type 0} (r : Rule A) (i : Input) (n : ℕ) → (n < length i.rest) ⊎ (n ≡ length i.rest) → (n < length i.rest → Front r i n) →
+    ((n < length i.rest) × Front r i n) ⊎ (n ≡ length i.rest)
 stops_by r i n (inl l) f = inl (l, f l)
 stops_by r i n (inr e) f = inr e
 

@@ -2,7 +2,7 @@
 use Rattle.std.proofs.Common.{◌≡◌, ◌⊎◌, inl, inr, refl, sym, ◌∙◌, subst}
 use Rattle.mp_ast.specs.Rules.{Input, Rule, gives}
 use Rattle.mp_ast.specs.Rules.{◌>>=◌ as ◌>>=ʳ◌, ◌>>◌ as ◌>>ʳ◌, ◌<$>◌ as ◌<$>ʳ◌, ◌<|>◌ as ◌<|>ʳ◌}
-use Rattle.mp_cursor.proofs.Laws.{Same}
+use Rattle.mp_cursor.proofs.RuleLaws.{Same}
 
 pub same_refl : {A : Type 0} (r : Rule A) → Same r r
 same_refl r = record { to = λ i x j d. d; back = λ i x j d. d }

@@ -1,5 +1,6 @@
 -- The law of lists whose items have separators between them, and that may end with one more.
-use Rattle.std.proofs.Common.{◌≡◌, ◌⊎◌, inl, inr, Ok, Err, ℕ, zero, suc, ◌<◌, ◌≤◌, Bool, true, false, List, [], ◌∷◌, ◌++◌, length, Option, Some, None, refl, sym, ap, ◌∙◌, subst, append_assoc, arith}
+use Rattle.std.proofs.Common.{◌≡◌, ◌⊎◌, inl, inr, Ok, Err, ℕ, zero, suc, ◌<◌, ◌≤◌, Bool, true, false, List, [], ◌∷◌, ◌++◌, length, Option, Some, None}
+use Rattle.std.proofs.Common.{refl, sym, ap, ◌∙◌, subst, append_assoc, arith}
 use Rattle.std.proofs.lemmas.List.{append-nil}
 use Rattle.std.specs.Prelude.{if◌then◌else◌}
 use Rattle.mp_ast.specs.declared.tokens.TokenKind.{TokenKind}
@@ -15,10 +16,13 @@ use Rattle.mp_cursor.specs.Nexts.{either}
 use Rattle.mp_cursor.proofs.Settled.{settles_series}
 use Rattle.mp_cursor.specs.declared.failure.Failure.{Failure}
 use Rattle.mp_cursor.proofs.Settled.{place, stopped, put}
-use Rattle.mp_cursor.proofs.Recovery.{failure_is, open_instead, Moves, Taken, Ends, Front, Stops, stops_where, front_as, front_first, front_second, front_between, moves_then, moves_or, moves_pure, moves_many, moves_token}
-use Rattle.mp_cursor.proofs.Laws.{expect_first, not_end, law_map, LawWhere, Same, read, read_is, both_ok, law_then, law_as, law_expect, IsOnly, token_falls}
+use Rattle.mp_cursor.proofs.Recovery.{failure_is, open_instead, Moves, Taken, Ends, Front, Stops, stops_where, front_as, front_first, front_second}
+use Rattle.mp_cursor.proofs.Recovery.{front_between, moves_then, moves_or, moves_pure, moves_many, moves_token}
+use Rattle.mp_cursor.proofs.RuleLaws.{expect_first, not_end, law_map, LawWhere, Same, read, read_is, both_ok, law_then, law_as, law_expect, IsOnly, token_falls}
 
-module _ {P A : Type 0} {u : Bool} {first inner : Nexts} {p : Parser A} {r : Rule A} (k : TokenKind) (o : IsOnly k) (test follow : Nexts) (a : LawWhere P u first inner p r) (begins : within first test ≡ true) (stops : apart follow (is (class_of k)) ≡ true) (ends : apart follow test ≡ true) (again : within (is (class_of k)) inner ≡ true) (last : within follow inner ≡ true) where
+module _ {P A : Type 0} {u : Bool} {first inner : Nexts} {p : Parser A} {r : Rule A} (k : TokenKind) (o : IsOnly k) (test follow : Nexts)
+    (a : LawWhere P u first inner p r) (begins : within first test ≡ true) (stops : apart follow (is (class_of k)) ≡ true)
+    (ends : apart follow test ≡ true) (again : within (is (class_of k)) inner ≡ true) (last : within follow inner ≡ true) where
   abbrev n : Next
   n = class_of k
 
@@ -46,18 +50,25 @@ module _ {P A : Type 0} {u : Bool} {first inner : Nexts} {p : Parser A} {r : Rul
   nothing found i ys j t e = ([], t, append-nil found ∙ e)
 
   -- behind a separator
-  behind_sound : (more : List A → Parser (List A)) (found : List A) (i : Input) (at : ℕ) (m : Input) (ys : List A) (j : Input) → token k i at m → ((z : List A) (l : Input) → more z l ≡ read ys j → Tail z l ys j) → (b : Bool) → (if b then (and_one p found >>= more) m else read found m) ≡ read ys j → Tail found i ys j
+  behind_sound : (more : List A → Parser (List A)) (found : List A) (i : Input) (at : ℕ) (m : Input) (ys : List A) (j : Input) → token k i at m →
+      ((z : List A) (l : Input) → more z l ≡ read ys j → Tail z l ys j) → (b : Bool) → (if b then (and_one p found >>= more) m else read found m) ≡ read ys j → Tail found i ys j
   behind_sound more found i at m ys j d ih true h =
       let w = both_ok (and_one p found m) more ys j h in
       let u = both_ok (p m) (λ x. pure (found ++ x ∷ [])) w.0 w.1 w.2 in
       let e = read_is (found ++ u.0 ∷ []) w.0 u.1 w.1 u.3 in
-      let t = ih w.0 w.1 w.3 in
-      (u.0 ∷ t.0, tail_more i at m u.0 w.1 t.0 j d (subst (λ l. r m u.0 l) e.1 (a.sound m u.0 u.1 u.2)) t.1, sym (append_assoc found (u.0 ∷ []) t.0) ∙ ap (λ z. z ++ t.0) e.0 ∙ t.2)
+      let t = ih w.0 w.1 w.3 in (
+        u.0 ∷ t.0,
+        tail_more i at m u.0 w.1 t.0 j d (subst (λ l. r m u.0 l) e.1 (a.sound m u.0 u.1 u.2)) t.1,
+        sym (append_assoc found (u.0 ∷ []) t.0) ∙
+            ap (λ z. z ++ t.0) e.0 ∙ t.2,
+      )
   behind_sound more found i at m ys j d ih false h =
       let w = read_is found ys m j h in
       nothing found i ys j (subst (λ l. tail i [] l) w.1 (tail_separator i at m d)) w.0
 
-  turn_sound : (more : List A → Parser (List A)) (found : List A) (i : Input) (ys : List A) (j : Input) → ((z : List A) (l : Input) → more z l ≡ read ys j → Tail z l ys j) → (b : Bool) → (if b then (expect n >> branch test (and_one p found >>= more) (pure found)) i else read found i) ≡ read ys j → Tail found i ys j
+  turn_sound : (more : List A → Parser (List A)) (found : List A) (i : Input) (ys : List A) (j : Input) →
+      ((z : List A) (l : Input) → more z l ≡ read ys j → Tail z l ys j) → (b : Bool) → (if b then
+      (expect n >> branch test (and_one p found >>= more) (pure found)) i else read found i) ≡ read ys j → Tail found i ys j
   turn_sound more found i ys j ih true h =
       let w = both_ok (expect n i) (λ at. branch test (and_one p found >>= more) (pure found)) ys j h in
       behind_sound more found i w.0 w.1 ys j ((law_expect {P = Unit {0}} k o).sound i w.0 w.1 w.2) ih (test (next_token w.1)) w.3
@@ -72,7 +83,9 @@ module _ {P A : Type 0} {u : Bool} {first inner : Nexts} {p : Parser A} {r : Rul
       nothing found i ys j (subst (λ l. tail i [] l) w.1 (tail_end i)) w.0
   series_sound (suc count) found i ys j h = turn_sound (rest count) found i ys j (λ z l e. series_sound count z l ys j e) (is n (next_token i)) h
 
-  behind_shrinks : (more : List A → Parser (List A)) (found : List A) (m : Input) (ys : List A) (j : Input) → ((z : List A) (l : Input) → more z l ≡ read ys j → length j.rest ≤ length l.rest) → (b : Bool) → (if b then (and_one p found >>= more) m else read found m) ≡ read ys j → length j.rest ≤ length m.rest
+  behind_shrinks : (more : List A → Parser (List A)) (found : List A) (m : Input) (ys : List A) (j : Input) →
+      ((z : List A) (l : Input) → more z l ≡ read ys j → length j.rest ≤ length l.rest) → (b : Bool) →
+      (if b then (and_one p found >>= more) m else read found m) ≡ read ys j → length j.rest ≤ length m.rest
   behind_shrinks more found m ys j ih true h =
       let w = both_ok (and_one p found m) more ys j h in
       let u = both_ok (p m) (λ x. pure (found ++ x ∷ [])) w.0 w.1 w.2 in
@@ -82,7 +95,9 @@ module _ {P A : Type 0} {u : Bool} {first inner : Nexts} {p : Parser A} {r : Rul
       omega arith
   behind_shrinks more found m ys j ih false h = let e = ap (λ l. length l.rest) (read_is found ys m j h).1 in omega arith
 
-  turn_shrinks : (more : List A → Parser (List A)) (found : List A) (i : Input) (ys : List A) (j : Input) → ((z : List A) (l : Input) → more z l ≡ read ys j → length j.rest ≤ length l.rest) → (b : Bool) → (if b then (expect n >> branch test (and_one p found >>= more) (pure found)) i else read found i) ≡ read ys j → length j.rest ≤ length i.rest
+  turn_shrinks : (more : List A → Parser (List A)) (found : List A) (i : Input) (ys : List A) (j : Input) →
+      ((z : List A) (l : Input) → more z l ≡ read ys j → length j.rest ≤ length l.rest) → (b : Bool) →
+      (if b then (expect n >> branch test (and_one p found >>= more) (pure found)) i else read found i) ≡ read ys j → length j.rest ≤ length i.rest
   turn_shrinks more found i ys j ih true h =
       let w = both_ok (expect n i) (λ at. branch test (and_one p found >>= more) (pure found)) ys j h in
       let e = (law_expect {P = Unit {0}} k o).shrinks i w.0 w.1 w.2 in
@@ -108,11 +123,13 @@ module _ {P A : Type 0} {u : Bool} {first inner : Nexts} {p : Parser A} {r : Rul
   inner_is : (i : Input) → either (is n) follow (next_token i) ≡ true → inner (next_token i) ≡ true
   inner_is i e = within_is (either (is n) follow) inner (within_both (is n) follow inner again last) (next_token i) e
 
-  tail_begins : (l : Input) (j : Input) → either (is n) follow (next_token l) ≡ true → (xs : List A) (i : Input) → Many (token k >>ʳ r) l xs i → either (is n) follow (next_token i) ≡ true
+  tail_begins : (l : Input) (j : Input) → either (is n) follow (next_token l) ≡ true → (xs : List A) (i : Input) → Many (token k >>ʳ r) l xs i →
+      either (is n) follow (next_token i) ≡ true
   tail_begins l j e _ _ no_more = e
   tail_begins l j e _ _ (one_more x xs i m d ds) = in_first (is n) follow (next_token i) (sees i d.0 d.1 d.2)
 
-  last_read : (count : ℕ) (found : List A) (i : Input) (at : Option ℕ) (j : Input) → optional (token k) i at j → follow (next_token j) ≡ true → length i.rest ≤ count → rest count found i ≡ read found j
+  last_read : (count : ℕ) (found : List A) (i : Input) (at : Option ℕ) (j : Input) → optional (token k) i at j → follow (next_token j) ≡ true →
+      length i.rest ≤ count → rest count found i ≡ read found j
   unfolding series
   last_read zero found i at j (inl d) e l = absurd (let f = token_falls k i d.0 d.1 d.2 in let z : ⊥ = omega arith in z)
   last_read (suc count) found i at j (inl d) e l =
@@ -123,10 +140,12 @@ module _ {P A : Type 0} {u : Bool} {first inner : Nexts} {p : Parser A} {r : Rul
       ∙ ap (λ m. read found m) d.3.1
   last_read zero found i at j (inr d) e l = ap (λ m. read found m) d.1
   last_read (suc count) found i at j (inr d) e l =
-      ap (λ b. if b then (expect n >> branch test (and_one p found >>= rest count) (pure found)) i else read found i) (apart_is follow (is n) stops (next_token i) (ap (λ m. follow (next_token m)) d.1 ∙ e))
+      ap (λ b. if b then (expect n >> branch test (and_one p found >>= rest count) (pure found)) i else read found i)
+      (apart_is follow (is n) stops (next_token i) (ap (λ m. follow (next_token m)) d.1 ∙ e))
       ∙ ap (λ m. read found m) d.1
 
-  series_complete : (at : Option ℕ) (l j : Input) → optional (token k) l at j → follow (next_token j) ≡ true → (count : ℕ) (found xs : List A) (i : Input) → Many (token k >>ʳ r) l xs i → length i.rest ≤ count → rest count found i ≡ read (found ++ xs) j
+  series_complete : (at : Option ℕ) (l j : Input) → optional (token k) l at j → follow (next_token j) ≡ true →
+      (count : ℕ) (found xs : List A) (i : Input) → Many (token k >>ʳ r) l xs i → length i.rest ≤ count → rest count found i ≡ read (found ++ xs) j
   unfolding series
   series_complete at l j c e count found _ _ no_more h = last_read count found l at j c e h ∙ ap (λ z. read z j) (sym (append-nil found))
   series_complete at l j c e zero found _ _ (one_more x xs i m d ds) h = absurd (let f = token_falls k i d.0 d.1 d.2 in let z : ⊥ = omega arith in z)
@@ -154,7 +173,9 @@ module _ {P A : Type 0} {u : Bool} {first inner : Nexts} {p : Parser A} {r : Rul
   All found = (λ xs. found ++ xs) <$>ʳ tail
 
   moves_last : (xs : List A) → Moves (optional (token k) >>ʳ gives xs)
-  moves_last xs = moves_then (optional (token k)) (λ z. gives xs) (moves_or (Some <$>ʳ token k) (gives None) (moves_then (token k) (λ at. gives (Some at)) (moves_token k) (λ at. moves_pure (Some at))) (moves_pure None)) (λ z. moves_pure xs)
+  moves_last xs =
+      moves_then (optional (token k)) (λ z. gives xs) (moves_or (Some <$>ʳ token k) (gives None)
+      (moves_then (token k) (λ at. gives (Some at)) (moves_token k) (λ at. moves_pure (Some at))) (moves_pure None)) (λ z. moves_pure xs)
 
   moves_all : (found : List A) → Moves (All found)
   moves_all found = moves_then tail (λ xs. gives (found ++ xs))
@@ -181,7 +202,8 @@ module _ {P A : Type 0} {u : Bool} {first inner : Nexts} {p : Parser A} {r : Rul
   abbrev Inside : List A → Input → Failure → Type 0
   Inside found i e = ((place e < length i.rest) × Front (All found) i (place e)) ⊎ (place e ≡ length i.rest)
 
-  item_stops : P → (rest : List A → Parser (List A)) (found : List A) (i : Input) (at : ℕ) (m : Input) (e : Failure) → token k i at m → ((z : List A) → Stops (rest z) (All z)) → (o : Outcome A) → p m ≡ o → and_then (and_then o (λ x. pure (found ++ x ∷ []))) rest ≡ stopped e → Inside found i e
+  item_stops : P → (rest : List A → Parser (List A)) (found : List A) (i : Input) (at : ℕ) (m : Input) (e : Failure) → token k i at m →
+      ((z : List A) → Stops (rest z) (All z)) → (o : Outcome A) → p m ≡ o → and_then (and_then o (λ x. pure (found ++ x ∷ []))) rest ≡ stopped e → Inside found i e
   item_stops granted more found i at m e d ih (Err f) g h = first_stops (stops_where p r a.settles (a.recovers granted) m e (g ∙ ap stopped (failure_is {A = List A} f e h)))
     where
       l : length m.rest < length i.rest
@@ -193,7 +215,8 @@ module _ {P A : Type 0} {u : Bool} {first inner : Nexts} {p : Parser A} {r : Rul
           inl (
             omega (arith, v, l),
             front_as ((token k >>ʳ r) >>=ʳ (λ x. All (found ++ x ∷ []))) (All found) i (place e) (in_front found)
-                (front_first (token k >>ʳ r) (λ x. All (found ++ x ∷ [])) i (place e) (front_second (token k) (λ at. r) i at m (place e) (moves_token k i at m d) w.1 w.0) (λ x. ends_all (found ++ x ∷ []))),
+                (front_first (token k >>ʳ r) (λ x. All (found ++ x ∷ [])) i (place e) (front_second (token k) (λ at. r) i at m (place e)
+                (moves_token k i at m d) w.1 w.0) (λ x. ends_all (found ++ x ∷ []))),
           )
       first_stops (inr w) = inl (omega (arith, w, l), subst (Front (All found) i) (sym w) (after_separator found i at m d))
   item_stops granted more found i at m e d ih (Ok x) g h = second_stops (ih (found ++ x.0 ∷ []) x.1 e h)
@@ -222,15 +245,19 @@ module _ {P A : Type 0} {u : Bool} {first inner : Nexts} {p : Parser A} {r : Rul
                 (front_between (token k >>ʳ r) (λ x. All (found ++ x ∷ [])) i x.0 x.1 (place e) taken (ends_all (found ++ x.0 ∷ []) x.1) w),
           )
 
-  behind_stops : P → (more : List A → Parser (List A)) (found : List A) (i : Input) (at : ℕ) (m : Input) (e : Failure) → token k i at m → ((z : List A) → Stops (more z) (All z)) → (b : Bool) → (if b then (and_one p found >>= more) m else read found m) ≡ stopped e → Inside found i e
+  behind_stops : P → (more : List A → Parser (List A)) (found : List A) (i : Input) (at : ℕ) (m : Input) (e : Failure) → token k i at m →
+      ((z : List A) → Stops (more z) (All z)) → (b : Bool) → (if b then (and_one p found >>= more) m else read found m) ≡ stopped e → Inside found i e
   behind_stops granted more found i at m e d ih true h = item_stops granted more found i at m e d ih (p m) refl h
   behind_stops granted more found i at m e d ih false h = absurd (let z : ⊥ = cc in z)
 
-  separator_stops : P → (more : List A → Parser (List A)) (found : List A) (i : Input) (e : Failure) → ((z : List A) → Stops (more z) (All z)) → (o : Outcome ℕ) → expect n i ≡ o → and_then o (λ at. branch test (and_one p found >>= more) (pure found)) ≡ stopped e → Inside found i e
-  separator_stops granted more found i e ih (Ok x) g h = behind_stops granted more found i x.0 x.1 e ((law_expect {P = Unit {0}} k o).sound i x.0 x.1 g) ih (test (next_token x.1)) h
+  separator_stops : P → (more : List A → Parser (List A)) (found : List A) (i : Input) (e : Failure) → ((z : List A) → Stops (more z) (All z)) →
+      (o : Outcome ℕ) → expect n i ≡ o → and_then o (λ at. branch test (and_one p found >>= more) (pure found)) ≡ stopped e → Inside found i e
+  separator_stops granted more found i e ih (Ok x) g h =
+      behind_stops granted more found i x.0 x.1 e ((law_expect {P = Unit {0}} k o).sound i x.0 x.1 g) ih (test (next_token x.1)) h
   separator_stops granted more found i e ih (Err f) g h = inr (expect_first k i e (g ∙ ap stopped (failure_is {A = List A} f e h)))
 
-  turn_stops : P → (more : List A → Parser (List A)) (found : List A) (i : Input) (e : Failure) → ((z : List A) → Stops (more z) (All z)) → (b : Bool) → (if b then (expect n >> branch test (and_one p found >>= more) (pure found)) i else read found i) ≡ stopped e → Inside found i e
+  turn_stops : P → (more : List A → Parser (List A)) (found : List A) (i : Input) (e : Failure) → ((z : List A) → Stops (more z) (All z)) →
+      (b : Bool) → (if b then (expect n >> branch test (and_one p found >>= more) (pure found)) i else read found i) ≡ stopped e → Inside found i e
   turn_stops granted more found i e ih true h = separator_stops granted more found i e ih (expect n i) refl h
   turn_stops granted more found i e ih false h = absurd (let z : ⊥ = cc in z)
 

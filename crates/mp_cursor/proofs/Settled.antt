@@ -1,6 +1,7 @@
 -- Parsers look at one token past those that they take, and no further: what is read, and where reading stops, is settled
 -- by the tokens up to the next one.
-use Rattle.std.proofs.Common.{◌≡◌, ℕ, zero, suc, ◌+◌, ◌<◌, ◌≤◌, Bool, true, false, List, [], ◌∷◌, ◌++◌, length, Option, Some, None, Ok, Err, refl, sym, ap, ◌∙◌, subst, append_assoc, arith}
+use Rattle.std.proofs.Common.{◌≡◌, ℕ, zero, suc, ◌+◌, ◌<◌, ◌≤◌, Bool, true, false, List, [], ◌∷◌, ◌++◌, length, Option, Some, None, Ok, Err, refl}
+use Rattle.std.proofs.Common.{sym, ap, ◌∙◌, subst, append_assoc, arith}
 use Rattle.std.specs.Prelude.{if◌then◌else◌, nat_lt, bytes_eq}
 use Rattle.mp_ast.specs.declared.tokens.TokenKind.{TokenKind}
 use Rattle.mp_ast.specs.declared.tokens.TokenKind.TheVariants as kind
@@ -13,7 +14,9 @@ use Rattle.mp_cursor.specs.declared.failure.Failure.TheVariants.{Memory, Wrong, 
 use Rattle.mp_cursor.specs.declared.next.Next.{Next}
 use Rattle.mp_cursor.specs.declared.next.Next.TheVariants as next
 use Rattle.mp_cursor.specs.Nexts.{next_of, class_of, is, Nexts}
-use Rattle.mp_cursor.specs.Parsers.{Outcome, Parser, and_then, ◌>>=◌, pure, refuse, next_token, behind, left, wrong, too_deep, too_many, branch, here, expect, opening, open_where, identifier, identifier_of, number, number_of, character_string, string_of, directive, directive_of, counted, deeper, with_own_ordinals, back_at, loop, repeated, series, repeated_series, ◌>>◌}
+use Rattle.mp_cursor.specs.Parsers.{Outcome, Parser, and_then, ◌>>=◌, pure, refuse, next_token, behind, left, wrong, too_deep, too_many, branch, here}
+use Rattle.mp_cursor.specs.Parsers.{expect, opening, open_where, identifier, identifier_of, number, number_of, character_string, string_of, directive}
+use Rattle.mp_cursor.specs.Parsers.{directive_of, counted, deeper, with_own_ordinals, back_at, loop, repeated, series, repeated_series, ◌>>◌}
 
 abbrev read_as : {A : Type 0} → A → Input → Outcome A
 read_as x i = Ok (x, i)
@@ -45,8 +48,11 @@ moved (TooMany m) n = TooMany n
 
 -- the tokens taken and those from there on, and that the latter count by their first one alone
 abbrev pub Settled : {A : Type 0} → Parser A → Input → Outcome A → Type 0
-Settled p i (Ok q) = (c : List TokenKind) × (i.rest ≡ c ++ q.1.rest) × ((more : List TokenKind) → first_kind more ≡ first_kind q.1.rest → p (put i (c ++ more)) ≡ read_as q.0 (put q.1 more))
-Settled p i (Err e) = (c b : List TokenKind) × (i.rest ≡ c ++ b) × (place e ≡ length b) × ((more : List TokenKind) → first_kind more ≡ first_kind b → p (put i (c ++ more)) ≡ stopped (moved e (length more)))
+Settled p i (Ok q) =
+    (c : List TokenKind) × (i.rest ≡ c ++ q.1.rest) × ((more : List TokenKind) → first_kind more ≡ first_kind q.1.rest → p (put i (c ++ more)) ≡ read_as q.0 (put q.1 more))
+Settled p i (Err e) =
+    (c b : List TokenKind) × (i.rest ≡ c ++ b) × (place e ≡ length b) × ((more : List TokenKind) → first_kind more ≡ first_kind b →
+    p (put i (c ++ more)) ≡ stopped (moved e (length more)))
 
 abbrev pub Settles : {A : Type 0} → Parser A → Type 0
 Settles p = (i : Input) → Settled p i (p i)
@@ -122,13 +128,15 @@ module _ {A B : Type 0} (p : Parser A) (q : A → Parser B) where
 
 module _ {A : Type 0} (p q : Parser A) (test : Nexts) where
   -- what one of the two settles, where the test chooses it
-  pub chosen : (i : Input) (b : Bool) (r : Parser A) → test (next_token i) ≡ b → ((m : Input) → (if b then p m else q m) ≡ r m) → (o : Outcome A) → Settled r i o → Settled (branch test p q) i o
+  pub chosen : (i : Input) (b : Bool) (r : Parser A) → test (next_token i) ≡ b → ((m : Input) → (if b then p m else q m) ≡ r m) → (o : Outcome A) →
+      Settled r i o → Settled (branch test p q) i o
   unfolding next_token
   chosen i b r e f (Ok x) s = (
     s.0,
     s.1,
     λ more h.
-        ap (λ c. if c then p (put i (s.0 ++ more)) else q (put i (s.0 ++ more))) (ap test (same_next (s.0 ++ more) i.rest (first_behind s.0 more x.1.rest h ∙ ap first_kind (sym s.1))) ∙ e)
+        ap (λ c. if c then p (put i (s.0 ++ more)) else q (put i (s.0 ++ more))) (ap test (same_next (s.0 ++ more) i.rest
+        (first_behind s.0 more x.1.rest h ∙ ap first_kind (sym s.1))) ∙ e)
         ∙ f (put i (s.0 ++ more)) ∙ s.2 more h,
   )
   chosen i b r e f (Err x) s = (
@@ -137,7 +145,8 @@ module _ {A : Type 0} (p q : Parser A) (test : Nexts) where
     s.2,
     s.3,
     λ more h.
-        ap (λ c. if c then p (put i (s.0 ++ more)) else q (put i (s.0 ++ more))) (ap test (same_next (s.0 ++ more) i.rest (first_behind s.0 more s.1 h ∙ ap first_kind (sym s.2))) ∙ e)
+        ap (λ c. if c then p (put i (s.0 ++ more)) else q (put i (s.0 ++ more))) (ap test (same_next (s.0 ++ more) i.rest
+        (first_behind s.0 more s.1 h ∙ ap first_kind (sym s.2))) ∙ e)
         ∙ f (put i (s.0 ++ more)) ∙ s.4 more h,
   )
 
@@ -189,7 +198,8 @@ module _ {A : Type 0} (v : TokenKind → Step A) where
   at_end at declared (k ∷ ks) h = absurd (let n : ⊥ = cc in n)
 
   -- before a token of this kind
-  at_kind : (at declared : ℕ) (k : TokenKind) (s : Step A) → v k ≡ s → (more : List TokenKind) → first_kind more ≡ Some k → (rest : List TokenKind) × (more ≡ k ∷ rest) × (stepped v at declared more ≡ step_by s at declared k rest)
+  at_kind : (at declared : ℕ) (k : TokenKind) (s : Step A) → v k ≡ s → (more : List TokenKind) → first_kind more ≡ Some k →
+      (rest : List TokenKind) × (more ≡ k ∷ rest) × (stepped v at declared more ≡ step_by s at declared k rest)
   at_kind at declared k s e [] h = absurd (let n : ⊥ = cc in n)
   at_kind at declared k s e (m ∷ ms) h =
       let w = some_is m k h in
@@ -197,8 +207,10 @@ module _ {A : Type 0} (v : TokenKind → Step A) where
 
   step_settled : (at declared : ℕ) (k : TokenKind) (ks : List TokenKind) (s : Step A) → v k ≡ s → Settled (stepping v) (input at declared (k ∷ ks)) (step_by s at declared k ks)
   step_settled at declared k ks (Takes f) e = (k ∷ [], refl, λ more h. ap (λ x. step_by x at declared k more) e)
-  step_settled at declared k ks Refuses e = ([], k ∷ ks, refl, refl, λ more h. let w = at_kind at declared k Refuses e more h in w.2 ∙ ap (λ n. stopped (Wrong n)) (ap (λ x. length x) (sym w.1)))
-  step_settled at declared k ks Deep e = ([], k ∷ ks, refl, refl, λ more h. let w = at_kind at declared k Deep e more h in w.2 ∙ ap (λ n. stopped (TooDeep n)) (ap (λ x. length x) (sym w.1)))
+  step_settled at declared k ks Refuses e =
+      ([], k ∷ ks, refl, refl, λ more h. let w = at_kind at declared k Refuses e more h in w.2 ∙ ap (λ n. stopped (Wrong n)) (ap (λ x. length x) (sym w.1)))
+  step_settled at declared k ks Deep e =
+      ([], k ∷ ks, refl, refl, λ more h. let w = at_kind at declared k Deep e more h in w.2 ∙ ap (λ n. stopped (TooDeep n)) (ap (λ x. length x) (sym w.1)))
 
   settled_by : (at declared : ℕ) (ks : List TokenKind) → Settled (stepping v) (input at declared ks) (stepped v at declared ks)
   settled_by at declared [] = ([], [], refl, refl, λ more h. at_end at declared more h)
@@ -217,7 +229,8 @@ opening_at false = Deep
 abbrev opening_step : ℕ → Next → TokenKind → Step ℕ
 opening_step room n k = if is n (class_of k) then opening_at (nat_lt 0 room) else Refuses
 
-expect_by : (n : Next) (at declared : ℕ) (k : TokenKind) (ks : List TokenKind) (b : Bool) → step_by (if b then Takes (λ a. a) else Refuses) at declared k ks ≡ (if b then read_as at (input (at + 1) declared ks) else Err (Wrong (length (k ∷ ks))))
+expect_by : (n : Next) (at declared : ℕ) (k : TokenKind) (ks : List TokenKind) (b : Bool) →
+    step_by (if b then Takes (λ a. a) else Refuses) at declared k ks ≡ (if b then read_as at (input (at + 1) declared ks) else Err (Wrong (length (k ∷ ks))))
 expect_by n at declared k ks true = refl
 expect_by n at declared k ks false = refl
 
@@ -229,13 +242,15 @@ expect_steps n e at declared (k ∷ ks) = expect_by n at declared k ks (is n (cl
 pub settles_expect : (n : Next) → is n next.End ≡ false → Settles (expect n)
 settles_expect n e = settles_as (stepping (expecting n)) (expect n) (λ i. expect_steps n e i.at i.declared i.rest) (settles_stepping (expecting n))
 
-open_by : (at declared : ℕ) (k : TokenKind) (ks : List TokenKind) (b c : Bool) → step_by (if b then opening_at c else Refuses) at declared k ks ≡ (if b then open_where c (input at declared (k ∷ ks)) else Err (Wrong (length (k ∷ ks))))
+open_by : (at declared : ℕ) (k : TokenKind) (ks : List TokenKind) (b c : Bool) → step_by (if b then opening_at c else Refuses) at declared k ks ≡
+    (if b then open_where c (input at declared (k ∷ ks)) else Err (Wrong (length (k ∷ ks))))
 unfolding behind too_deep left
 open_by at declared k ks true true = refl
 open_by at declared k ks true false = refl
 open_by at declared k ks false c = refl
 
-open_steps : (room : ℕ) (n : Next) → is n next.End ≡ false → (at declared : ℕ) (ks : List TokenKind) → stepped (opening_step room n) at declared ks ≡ opening room n (input at declared ks)
+open_steps : (room : ℕ) (n : Next) → is n next.End ≡ false → (at declared : ℕ) (ks : List TokenKind) →
+    stepped (opening_step room n) at declared ks ≡ opening room n (input at declared ks)
 unfolding opening next_token wrong left
 open_steps room n e at declared [] = ap (λ b. if b then open_where (nat_lt 0 room) (input at declared []) else Err (Wrong 0)) (sym e)
 open_steps room n e at declared (k ∷ ks) = open_by at declared k ks (is n (class_of k)) (nat_lt 0 room)
@@ -309,7 +324,8 @@ directing spelling (kind.Text characters) = Refuses
 directing spelling (kind.Word v) = Refuses
 directing spelling (kind.Symbol v) = Refuses
 
-direct_by : (at declared : ℕ) (k : TokenKind) (ks : List TokenKind) (b : Bool) → step_by (if b then Takes (λ a. a) else Refuses) at declared k ks ≡ (if b then read_as at (input (at + 1) declared ks) else Err (Wrong (length (k ∷ ks))))
+direct_by : (at declared : ℕ) (k : TokenKind) (ks : List TokenKind) (b : Bool) → step_by (if b then Takes (λ a. a) else Refuses) at declared k ks ≡
+    (if b then read_as at (input (at + 1) declared ks) else Err (Wrong (length (k ∷ ks))))
 direct_by at declared k ks true = refl
 direct_by at declared k ks false = refl
 
@@ -323,17 +339,20 @@ directive_steps spelling at declared (kind.Symbol v ∷ ks) = refl
 
 pub settles_directive : (spelling : List ℕ) → Settles (directive spelling)
 unfolding directive
-settles_directive spelling = settles_as (stepping (directing spelling)) (directive spelling) (λ i. directive_steps spelling i.at i.declared i.rest) (settles_stepping (directing spelling))
+settles_directive spelling =
+    settles_as (stepping (directing spelling)) (directive spelling) (λ i. directive_steps spelling i.at i.declared i.rest) (settles_stepping (directing spelling))
 
 pub settles_here : Settles here
 settles_here = λ i. ([], refl, λ more h. refl)
 
 -- ---- blocks
 
-counted_settled : (most : ℕ) (i : Input) (b : Bool) → nat_lt i.declared most ≡ b → Settled (counted most) i (if b then read_as tt (record i { declared = i.declared + 1 }) else Err (too_many i))
+counted_settled : (most : ℕ) (i : Input) (b : Bool) → nat_lt i.declared most ≡ b → Settled (counted most) i
+    (if b then read_as tt (record i { declared = i.declared + 1 }) else Err (too_many i))
 unfolding counted too_many left
 counted_settled most i true e = ([], refl, λ more h. ap (λ b. if b then read_as tt (record (put i more) { declared = i.declared + 1 }) else Err (TooMany (length more))) e)
-counted_settled most i false e = ([], i.rest, refl, refl, λ more h. ap (λ b. if b then read_as tt (record (put i more) { declared = i.declared + 1 }) else Err (TooMany (length more))) e)
+counted_settled most i false e =
+    ([], i.rest, refl, refl, λ more h. ap (λ b. if b then read_as tt (record (put i more) { declared = i.declared + 1 }) else Err (TooMany (length more))) e)
 
 pub settles_counted : (most : ℕ) → Settles (counted most)
 unfolding counted
@@ -368,12 +387,15 @@ pub no_length : (ks : List TokenKind) → length ks ≤ 0 → ks ≡ []
 no_length [] h = refl
 no_length (k ∷ ks) h = absurd (omega (arith, h))
 
-module _ {A : Type 0} (test : Nexts) (turn : A → Parser A) (ends : test next.End ≡ false) (falls : (x : A) (i : Input) (y : A) (j : Input) → turn x i ≡ read_as y j → length j.rest < length i.rest) where
+module _ {A : Type 0} (test : Nexts) (turn : A → Parser A) (ends : test next.End ≡ false) (falls : (x : A) (i : Input) (y : A) (j : Input) →
+    turn x i ≡ read_as y j → length j.rest < length i.rest) where
   -- there is no turn at the end
   loop_ends : (n : ℕ) (found : A) (i : Input) → length i.rest ≤ 0 → loop test turn n found i ≡ read_as found i
   unfolding loop next_token
   loop_ends zero found i h = refl
-  loop_ends (suc n) found i h = ap (λ ks. if test (next_of ks) then (turn found >>= loop test turn n) i else read_as found i) (no_length i.rest h) ∙ ap (λ b. if b then (turn found >>= loop test turn n) i else read_as found i) ends
+  loop_ends (suc n) found i h =
+      ap (λ ks. if test (next_of ks) then (turn found >>= loop test turn n) i else read_as found i) (no_length i.rest h) ∙
+      ap (λ b. if b then (turn found >>= loop test turn n) i else read_as found i) ends
 
   -- as many turns as there are tokens are enough
   loop_enough : (n m : ℕ) (found : A) (i : Input) → length i.rest ≤ n → length i.rest ≤ m → loop test turn n found i ≡ loop test turn m found i
@@ -399,14 +421,20 @@ module _ {A : Type 0} (test : Nexts) (turn : A → Parser A) (ends : test next.E
       ∙ ap (λ m. loop test turn m found i) (sym h)
 
   module _ (a : (x : A) → Settles (turn x)) where
-    once_by : (found : A) (i : Input) → ((x : A) (m : Input) → turn found i ≡ read_as x m → Settled (repeated test turn x) m (repeated test turn x m)) → (b : Bool) → test (next_token i) ≡ b → Settled (once found) i (if b then (turn found >>= repeated test turn) i else read_as found i)
-    once_by found i ih true e = chosen (turn found >>= repeated test turn) (pure found) test i true (turn found >>= repeated test turn) e (λ m. refl) ((turn found >>= repeated test turn) i) (settled_then (turn found) (repeated test turn) i (a found i) ih)
+    once_by : (found : A) (i : Input) → ((x : A) (m : Input) → turn found i ≡ read_as x m →
+        Settled (repeated test turn x) m (repeated test turn x m)) → (b : Bool) → test (next_token i) ≡ b →
+        Settled (once found) i (if b then (turn found >>= repeated test turn) i else read_as found i)
+    once_by found i ih true e =
+        chosen (turn found >>= repeated test turn) (pure found) test i true (turn found >>= repeated test turn) e (λ m. refl)
+        ((turn found >>= repeated test turn) i) (settled_then (turn found) (repeated test turn) i (a found i) ih)
     once_by found i ih false e = chosen (turn found >>= repeated test turn) (pure found) test i false (pure found) e (λ m. refl) (read_as found i) (settles_pure found i)
 
-    once_settled : (found : A) (i : Input) → ((x : A) (m : Input) → turn found i ≡ read_as x m → Settled (repeated test turn x) m (repeated test turn x m)) → Settled (repeated test turn found) i (repeated test turn found i)
+    once_settled : (found : A) (i : Input) → ((x : A) (m : Input) → turn found i ≡ read_as x m →
+        Settled (repeated test turn x) m (repeated test turn x m)) → Settled (repeated test turn found) i (repeated test turn found i)
     once_settled found i ih =
         let s = once_by found i ih (test (next_token i)) refl in
-        subst (λ o. Settled (repeated test turn found) i o) (unrolled (length i.rest) found i refl) (as_by (once found) (repeated test turn found) (λ m. unrolled (length m.rest) found m refl) i (once found i) s)
+        subst (λ o. Settled (repeated test turn found) i o) (unrolled (length i.rest) found i refl)
+        (as_by (once found) (repeated test turn found) (λ m. unrolled (length m.rest) found m refl) i (once found i) s)
 
     -- by how many tokens are left
     loop_settled : (n : ℕ) (found : A) (i : Input) → length i.rest ≤ n → Settled (repeated test turn found) i (repeated test turn found i)
@@ -428,11 +456,13 @@ module _ {A : Type 0} (separator : Next) (test : Nexts) (turn : A → Parser A) 
   series_once more found = branch (is separator) (expect separator >> after more found) (pure found)
 
   -- goes on alike where it goes on alike with fewer tokens
-  after_alike : (more other : A → Parser A) (found : A) (i : Input) (b : Bool) → ((x : A) (m : Input) → length m.rest ≤ length i.rest → more x m ≡ other x m) → (if b then (turn found >>= more) i else read_as found i) ≡ (if b then (turn found >>= other) i else read_as found i)
+  after_alike : (more other : A → Parser A) (found : A) (i : Input) (b : Bool) → ((x : A) (m : Input) → length m.rest ≤ length i.rest →
+      more x m ≡ other x m) → (if b then (turn found >>= more) i else read_as found i) ≡ (if b then (turn found >>= other) i else read_as found i)
   after_alike more other found i true h = goes_on (turn found i) more other (λ x m e. h x m (shrinks found i x m e))
   after_alike more other found i false h = refl
 
-  alike : (more other : A → Parser A) (found : A) (i : Input) → ((x : A) (m : Input) → length m.rest < length i.rest → more x m ≡ other x m) → series_once more found i ≡ series_once other found i
+  alike : (more other : A → Parser A) (found : A) (i : Input) → ((x : A) (m : Input) → length m.rest < length i.rest → more x m ≡ other x m) →
+      series_once more found i ≡ series_once other found i
   alike more other found i h =
       ap (λ o. if is separator (next_token i) then o else read_as found i)
       (goes_on (expect separator i) (λ at. after more found) (λ at. after other found) (λ at m e.
@@ -441,14 +471,17 @@ module _ {A : Type 0} (separator : Next) (test : Nexts) (turn : A → Parser A) 
 
   series_ends : (more : A → Parser A) (found : A) (i : Input) → length i.rest ≤ 0 → series_once more found i ≡ read_as found i
   unfolding next_token
-  series_ends more found i h = ap (λ ks. if is separator (next_of ks) then (expect separator >> after more found) i else read_as found i) (no_length i.rest h) ∙ ap (λ b. if b then (expect separator >> after more found) i else read_as found i) ends
+  series_ends more found i h =
+      ap (λ ks. if is separator (next_of ks) then (expect separator >> after more found) i else read_as found i) (no_length i.rest h) ∙
+      ap (λ b. if b then (expect separator >> after more found) i else read_as found i) ends
 
   series_enough : (n m : ℕ) (found : A) (i : Input) → length i.rest ≤ n → length i.rest ≤ m → series separator test turn n found i ≡ series separator test turn m found i
   unfolding series
   series_enough zero zero found i h g = refl
   series_enough zero (suc m) found i h g = sym (series_ends (series separator test turn m) found i h)
   series_enough (suc n) zero found i h g = series_ends (series separator test turn n) found i g
-  series_enough (suc n) (suc m) found i h g = alike (series separator test turn n) (series separator test turn m) found i (λ x k l. series_enough n m x k (omega arith) (omega arith))
+  series_enough (suc n) (suc m) found i h g =
+      alike (series separator test turn n) (series separator test turn m) found i (λ x k l. series_enough n m x k (omega arith) (omega arith))
 
   abbrev whole : A → Parser A
   whole = repeated_series separator test turn
@@ -461,22 +494,30 @@ module _ {A : Type 0} (separator : Next) (test : Nexts) (turn : A → Parser A) 
       ∙ ap (λ m. series separator test turn m found i) (sym h)
 
   module _ (a : (x : A) → Settles (turn x)) where
-    after_by : (found : A) (i : Input) → ((x : A) (m : Input) → length m.rest ≤ length i.rest → Settled (whole x) m (whole x m)) → (b : Bool) → test (next_token i) ≡ b → Settled (after whole found) i (if b then (turn found >>= whole) i else read_as found i)
-    after_by found i ih true e = chosen (turn found >>= whole) (pure found) test i true (turn found >>= whole) e (λ m. refl) ((turn found >>= whole) i) (settled_then (turn found) whole i (a found i) (λ x m g. ih x m (shrinks found i x m g)))
+    after_by : (found : A) (i : Input) → ((x : A) (m : Input) → length m.rest ≤ length i.rest → Settled (whole x) m (whole x m)) → (b : Bool) →
+        test (next_token i) ≡ b → Settled (after whole found) i (if b then (turn found >>= whole) i else read_as found i)
+    after_by found i ih true e =
+        chosen (turn found >>= whole) (pure found) test i true (turn found >>= whole) e (λ m. refl) ((turn found >>= whole) i)
+        (settled_then (turn found) whole i (a found i) (λ x m g. ih x m (shrinks found i x m g)))
     after_by found i ih false e = chosen (turn found >>= whole) (pure found) test i false (pure found) e (λ m. refl) (read_as found i) (settles_pure found i)
 
-    series_once_by : (found : A) (i : Input) → ((x : A) (m : Input) → length m.rest < length i.rest → Settled (whole x) m (whole x m)) → (b : Bool) → is separator (next_token i) ≡ b → Settled (series_once whole found) i (if b then (expect separator >> after whole found) i else read_as found i)
+    series_once_by : (found : A) (i : Input) → ((x : A) (m : Input) → length m.rest < length i.rest → Settled (whole x) m (whole x m)) → (b : Bool) →
+        is separator (next_token i) ≡ b → Settled (series_once whole found) i (if b then (expect separator >> after whole found) i else read_as found i)
     series_once_by found i ih true e =
-        chosen (expect separator >> after whole found) (pure found) (is separator) i true (expect separator >> after whole found) e (λ m. refl) ((expect separator >> after whole found) i)
+        chosen (expect separator >> after whole found) (pure found) (is separator) i true (expect separator >> after whole found) e (λ m. refl)
+        ((expect separator >> after whole found) i)
         (settled_then (expect separator) (λ at. after whole found) i (settles_expect separator ends i) (λ at m g.
         let l = falls i at m g in
         after_by found m (λ x k f. ih x k (omega arith)) (test (next_token m)) refl))
-    series_once_by found i ih false e = chosen (expect separator >> after whole found) (pure found) (is separator) i false (pure found) e (λ m. refl) (read_as found i) (settles_pure found i)
+    series_once_by found i ih false e =
+        chosen (expect separator >> after whole found) (pure found) (is separator) i false (pure found) e (λ m. refl) (read_as found i) (settles_pure found i)
 
-    series_once_settled : (found : A) (i : Input) → ((x : A) (m : Input) → length m.rest < length i.rest → Settled (whole x) m (whole x m)) → Settled (whole found) i (whole found i)
+    series_once_settled : (found : A) (i : Input) → ((x : A) (m : Input) → length m.rest < length i.rest → Settled (whole x) m (whole x m)) →
+        Settled (whole found) i (whole found i)
     series_once_settled found i ih =
         let s = series_once_by found i ih (is separator (next_token i)) refl in
-        subst (λ o. Settled (whole found) i o) (series_unrolled (length i.rest) found i refl) (as_by (series_once whole found) (whole found) (λ m. series_unrolled (length m.rest) found m refl) i (series_once whole found i) s)
+        subst (λ o. Settled (whole found) i o) (series_unrolled (length i.rest) found i refl)
+        (as_by (series_once whole found) (whole found) (λ m. series_unrolled (length m.rest) found m refl) i (series_once whole found i) s)
 
     series_settled : (n : ℕ) (found : A) (i : Input) → length i.rest ≤ n → Settled (whole found) i (whole found i)
     series_settled zero found i h = series_once_settled found i (λ x m l. absurd (let z : ⊥ = omega arith in z))

@@ -1,6 +1,6 @@
 #![tactic(auto, unfolding(crate::specs::Parsers::next_token, crate::specs::Parsers::behind, crate::specs::Parsers::left, crate::specs::Parsers::wrong, crate::specs::Parsers::too_deep, crate::specs::Parsers::too_many, crate::specs::Parsers::expect, crate::specs::Parsers::opening, crate::specs::Parsers::counted))]
 
-ghost use Rattle.std.specs.Prelude.{◌≡◌, ◌+◌, ◌-◌, ◌<◌, ◌≤◌, IfOk, bytes_eq, length};
+ghost use Rattle.std.specs.Prelude.{◌≡◌, ◌+◌, ◌-◌, ◌<◌, ◌≤◌, IfOk, bytes_eq, drop, length};
 ghost use Rattle.mp_ast.specs.Programs.{kinds_of, start_of};
 ghost use Rattle.mp_cursor.specs.Nexts.{is};
 ghost use Rattle.mp_cursor.specs.Parsers as spec;
@@ -52,6 +52,17 @@ impl<'a> Cursor<'a> {
         }
     }
 
+    /// The same place, to go on from it twice.
+    pub fn copy(&self) -> Cursor<'a>
+        ensures { result ≡ self.now }
+    {
+        Cursor {
+            rest: self.rest,
+            at: self.at,
+            declared: self.declared,
+        }
+    }
+
     /// What the next token is.
     pub fn next(&self) -> Next
         ensures { result ≡ spec.next_token self.now }
@@ -82,6 +93,17 @@ impl<'a> Cursor<'a> {
         ensures small { result ≤ TEXT_LIMIT }
     {
         self.at
+    }
+
+    /// Goes past so many tokens, whatever they are; none of them is counted as a declaration.
+    pub fn skip(&mut self, tokens: usize)
+        requires { tokens ≤ length self.old.rest }
+        ensures at { self.new.at ≡ self.old.at + tokens }
+        ensures rest { self.new.rest ≡ drop tokens self.old.rest }
+        ensures declared { self.new.declared ≡ self.old.declared }
+    {
+        self.rest = &self.rest[tokens..];
+        self.at += tokens as u32;
     }
 
     /// Refuses the next token, or the end.

@@ -1,5 +1,8 @@
+#![tactic(auto, using(crate::proofs::LoopLemmas::loop_more, crate::proofs::LoopLemmas::loop_done), unfolding(crate::specs::Parsers::repeated, crate::specs::Leaves::further_identifier, crate::specs::Leaves::further_constant))]
+
 ghost use Rattle.std.specs.Prelude.{◌≡◌, ◌∷◌};
 ghost use Rattle.mp_cursor.specs.Nexts as nexts;
+ghost use Rattle.mp_cursor.specs.LeafTokens.{constant_begins};
 ghost use Rattle.mp_cursor.specs.Leaves as spec;
 ghost use Rattle.mp_cursor.specs.Parsers.{Reads, repeated, and_one, expect, identifier as name};
 ghost use Rattle.mp_cursor.specs.declared.next.Next.TheVariants as token;
@@ -60,6 +63,16 @@ fn signed_constant(tokens: &mut Cursor<'_>) -> Result<Constant, Failure>
     }
 }
 
+/// Whether a constant begins with such a token (ISO 7185, 6.3).
+pub fn begins_constant(next: Next) -> bool
+    ensures { result ≡ constant_begins next }
+{
+    matches!(
+        next,
+        Next::Identifier | Next::Number | Next::Text | Next::Symbol(Symbol::Plus | Symbol::Minus)
+    )
+}
+
 /// A constant (ISO 7185, 6.3).
 #[tactic(auto, unfolding(crate::specs::Leaves::constant))]
 pub fn constant(alloc: Global, tokens: &mut Cursor<'_>) -> Result<Constant, Failure>
@@ -72,7 +85,6 @@ pub fn constant(alloc: Global, tokens: &mut Cursor<'_>) -> Result<Constant, Fail
     }
 }
 
-#[tactic(auto, using(crate::proofs::LoopLemmas::loop_more, crate::proofs::LoopLemmas::loop_done), unfolding(crate::specs::Parsers::repeated, crate::specs::Leaves::further_identifier))]
 fn further_identifiers(
     tokens: &mut Cursor<'_>,
     first: Items<Identifier>,
@@ -91,6 +103,7 @@ fn further_identifiers(
 }
 
 /// Names with commas between them.
+#[tactic(auto)]
 pub fn identifiers(alloc: Global, tokens: &mut Cursor<'_>) -> Result<Items<Identifier>, Failure>
     ensures { Reads (spec.identifiers tokens.old) result tokens.new }
 {
@@ -99,7 +112,6 @@ pub fn identifiers(alloc: Global, tokens: &mut Cursor<'_>) -> Result<Items<Ident
     further_identifiers(tokens, found)
 }
 
-#[tactic(auto, using(crate::proofs::LoopLemmas::loop_more, crate::proofs::LoopLemmas::loop_done), unfolding(crate::specs::Parsers::repeated, crate::specs::Leaves::further_constant))]
 fn further_constants(
     alloc: Global,
     tokens: &mut Cursor<'_>,
@@ -119,6 +131,7 @@ fn further_constants(
 }
 
 /// Constants with commas between them.
+#[tactic(auto)]
 pub fn constants(alloc: Global, tokens: &mut Cursor<'_>) -> Result<Items<Constant>, Failure>
     ensures { Reads (spec.constants tokens.old) result tokens.new }
 {

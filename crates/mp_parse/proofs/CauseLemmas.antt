@@ -13,7 +13,7 @@ use Rattle.mp_cursor.specs.declared.failure.Failure.{Failure}
 use Rattle.mp_cursor.specs.declared.failure.Failure.TheVariants.{Memory, Wrong, TooDeep, TooMany}
 use Rattle.mp_cursor.specs.Parsers.{Outcome}
 use Rattle.mp_cursor.proofs.Settled.{Settled, first_kind, place, moved, put}
-use Rattle.mp_cursor.proofs.Laws.{read}
+use Rattle.mp_cursor.proofs.RuleLaws.{read}
 use Rattle.mp_parse.specs.Blocks.{program}
 use Rattle.mp_parse.proofs.DeclarationLaws.{Room, law_program}
 use Rattle.mp_parse.proofs.ProgramLemmas.{parsed, stopped, reads_program}
@@ -204,22 +204,26 @@ none_before kinds e index h n t =
     no_tree_before kinds s.before s.behind e h s.whole (subst (λ ks. HasTree standard ks) same t)
 
 -- where the parser stops under other limits as well, no program without these begins with the token
-never_viable : (others : Limits) (kinds : List TokenKind) (e : Failure) (index : ℕ) (s : Stop kinds e) → StopsAgain others s.before s.behind e → 0 < place e → index + place e ≡ length kinds → IsViable others (take (index + 1) kinds) → ⊥
+never_viable : (others : Limits) (kinds : List TokenKind) (e : Failure) (index : ℕ) (s : Stop kinds e) → StopsAgain others s.before s.behind e →
+    0 < place e → index + place e ≡ length kinds → IsViable others (take (index + 1) kinds) → ⊥
 never_viable others kinds e index s a some n v =
     let same = ap (λ m. take (m + 1) kinds) (sym (index_at kinds e index s n)) ∙ ap (λ ks. take (length s.before + 1) ks) s.whole in
     stops_again others s.before s.behind e a (let p = s.at in omega (arith, some)) (subst (λ ks. IsViable others ks) same v)
 
 -- 201
-wrong_everywhere : (kinds : List TokenKind) (left index : ℕ) → parsed standard kinds ≡ stopped (Wrong left) → 0 < left → index + left ≡ length kinds → IsTooDeep standard (take (index + 1) kinds) → ⊥
+wrong_everywhere : (kinds : List TokenKind) (left index : ℕ) → parsed standard kinds ≡ stopped (Wrong left) → 0 < left → index + left ≡ length kinds →
+    IsTooDeep standard (take (index + 1) kinds) → ⊥
 wrong_everywhere kinds left index h some n d =
     let s = stop_of kinds (Wrong left) h in
     never_viable d.0 kinds (Wrong left) index s (λ more e. compared_with (any_higher d.0 d.1) (s.before ++ more) (stopped (Wrong (length more))) (s.again more e)) some n d.2
 
 -- 203
-deep_with_more : (kinds : List TokenKind) (left index : ℕ) → parsed standard kinds ≡ stopped (TooDeep left) → 0 < left → index + left ≡ length kinds → HasTooManyDeclarations standard (take (index + 1) kinds) → ⊥
+deep_with_more : (kinds : List TokenKind) (left index : ℕ) → parsed standard kinds ≡ stopped (TooDeep left) → 0 < left → index + left ≡ length kinds →
+    HasTooManyDeclarations standard (take (index + 1) kinds) → ⊥
 deep_with_more kinds left index h some n d =
     let s = stop_of kinds (TooDeep left) h in
-    never_viable d.0 kinds (TooDeep left) index s (λ more e. (compared_with (any_more d.0 d.1) (s.before ++ more) (stopped (TooDeep (length more))) (s.again more e)).0 tt) some n d.2
+    never_viable d.0 kinds (TooDeep left) index s (λ more e. (compared_with (any_more d.0 d.1) (s.before ++ more) (stopped (TooDeep (length more)))
+    (s.again more e)).0 tt) some n d.2
 
 deep_past : (kinds : List TokenKind) (left : ℕ) → parsed standard kinds ≡ stopped (TooDeep left) → Past left 0 (parsed higher_limits kinds)
 deep_past kinds left h = (compared_with all_higher kinds (stopped (TooDeep left)) h).1 tt

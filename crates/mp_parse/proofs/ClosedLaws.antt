@@ -99,7 +99,13 @@ module _ (openers : ℕ) where
   closed_statements (suc room) e =
       closed_next _ _ 1 (record {
         takes = λ i at j d. let t : token (kind.Word w.Begin) i at j = subst (λ n. rule.opener n (kind.Word w.Begin) i at j) e d in
-            record { kinds = kind.Word w.Begin ∷ []; enough = omega arith; tokens = t.0; anywhere = λ more. subst (λ n. rule.opener n (kind.Word w.Begin) (put i (kind.Word w.Begin ∷ more)) at (put j more)) (sym e) (refl, t.1, t.2, t.3) };
+            record {
+              kinds = kind.Word w.Begin ∷ [];
+              enough = omega arith;
+              tokens = t.0;
+              anywhere =
+                  λ more. subst (λ n. rule.opener n (kind.Word w.Begin) (put i (kind.Word w.Begin ∷ more)) at (put j more)) (sym e) (refl, t.1, t.2, t.3);
+            };
       })
       (λ at. closed_fewer _ (closed_then _ _ (law_sequence_behind openers room e).moves (λ found. closed_next _ _ 1 (closed_token _) (λ end. closed_pure _))))
 
@@ -143,5 +149,6 @@ module _ (limits : Limits) where
       closed_then _ _ (law_identifier {P = Unit {0}}).moves (λ name.
       closed_then _ _ (law_parameters limits).moves (λ parameters.
       closed_then _ _ (moves_token _) (λ z.
-      closed_then _ _ (closed_moves _ (closed_block _ (closed_moves _ (closed_nested limits.depth)) (Some (record { name = name; parameters = parameters })) limits.depth)) (λ found.
+      closed_then _ _ (closed_moves _ (closed_block _ (closed_moves _ (closed_nested limits.depth))
+      (Some (record { name = name; parameters = parameters })) limits.depth)) (λ found.
       closed_next _ _ 1 (closed_token _) (λ z. closed_next _ _ 0 closed_here (λ tokens. closed_pure _)))))))

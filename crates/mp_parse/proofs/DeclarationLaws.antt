@@ -20,7 +20,7 @@ use Rattle.mp_cursor.specs.declared.next.Next.TheVariants.{Word, Symbol}
 use Rattle.mp_cursor.specs.Nexts.{Nexts, is, any, either}
 use Rattle.mp_cursor.specs.Parsers.{Parser, ◌>>=◌, ◌>>◌, pure, expect, deeper}
 use Rattle.mp_cursor.proofs.NextSets.{within_any, within_itself}
-use Rattle.mp_cursor.proofs.Laws.{Law, LawWhere, law_where, Same, law_pure, law_then, law_map, law_begun, law_as, law_word, law_symbol, law_here, law_never, law_unfinished}
+use Rattle.mp_cursor.proofs.RuleLaws.{Law, LawWhere, law_where, Same, law_pure, law_then, law_map, law_begun, law_as, law_word, law_symbol, law_here, law_never, law_unfinished}
 use Rattle.mp_cursor.proofs.SameRules.{same_refl, same_sym, same_trans, same_then, map_first, same_value}
 use Rattle.mp_cursor.proofs.LeafLaws.{has_room, law_identifier, law_directive}
 use Rattle.mp_cursor.proofs.ChoiceLaws.{law_branch, law_branch_first}
@@ -108,9 +108,12 @@ module _ {P : Type 0} {u : Bool} {q : Parser Tree} {r : Rule Tree} (block : LawW
         rule.◌>>=◌ (rule.◌<|>◌ g.forward_directive (g.block_body r)) (λ rest.
         rule.◌>>◌ (rule.symbol s.Semicolon) (rule.gives (declared_pair heading semicolon rest))))))
 
-    rest_behind : (heading : HeadingTree) (semicolon : ℕ) → LawWhere P true body_begins any (p.declared_body q >>= (λ rest. expect (Symbol s.Semicolon) >> pure (declared_pair heading semicolon rest)))
+    rest_behind : (heading : HeadingTree) (semicolon : ℕ) → LawWhere P true body_begins any
+        (p.declared_body q >>= (λ rest. expect (Symbol s.Semicolon) >> pure (declared_pair heading semicolon rest)))
         (rule.◌>>=◌ (rule.◌<|>◌ g.forward_directive (g.block_body r)) (λ rest. rule.◌>>◌ (rule.symbol s.Semicolon) (rule.gives (declared_pair heading semicolon rest))))
-    rest_behind heading semicolon = law_then law_declared_body (within_any (is (Symbol s.Semicolon))) (λ rest. law_then (law_symbol s.Semicolon) (within_any any) (λ z. law_pure (declared_pair heading semicolon rest) any))
+    rest_behind heading semicolon =
+        law_then law_declared_body (within_any (is (Symbol s.Semicolon))) (λ rest. law_then (law_symbol s.Semicolon) (within_any any)
+        (λ z. law_pure (declared_pair heading semicolon rest) any))
 
     law_declaration : LawWhere P false heading_begins any (p.declaration limits q) declaration_rule
     unfolding p.declaration
@@ -167,22 +170,27 @@ module _ {P : Type 0} {u : Bool} {q : Parser Tree} {r : Rule Tree} (block : LawW
     collected : (ds : List g.Declared) → all_added p.with_one_more ([], []) (map pair ds) ≡ of_records ds
     collected ds = collected_from ([], []) ds
 
-    declarations_same : (depth : ℕ) → Same (rule.◌<$>◌ (λ xs. all_added p.with_one_more ([], []) xs) (many (rule.deeper depth declaration_rule))) (rule.◌<$>◌ of_records (many (rule.deeper depth (g.declaration limits r))))
+    declarations_same : (depth : ℕ) → Same (rule.◌<$>◌ (λ xs. all_added p.with_one_more ([], []) xs) (many (rule.deeper depth declaration_rule)))
+        (rule.◌<$>◌ of_records (many (rule.deeper depth (g.declaration limits r))))
     declarations_same depth =
         same_trans (same_then (many_same (deeper_same depth declaration_same)) (λ xs. same_refl _))
-        (same_trans (same_then (same_trans (many_same (deeper_map pair (g.declaration limits r) depth)) (many_map_plain pair (rule.deeper depth (g.declaration limits r)))) (λ xs. same_refl _))
+        (same_trans (same_then (same_trans (many_same (deeper_map pair (g.declaration limits r) depth))
+        (many_map_plain pair (rule.deeper depth (g.declaration limits r)))) (λ xs. same_refl _))
         (same_trans (map_first (map pair) (many (rule.deeper depth (g.declaration limits r))) (λ xs. rule.gives (all_added p.with_one_more ([], []) xs)))
         (same_value _ _ collected)))
 
-    law_declarations : (depth : ℕ) → LawWhere P true (either heading_begins (is (Word w.Begin))) (is (Word w.Begin)) (p.declarations limits depth q) (rule.◌<$>◌ of_records (many (rule.deeper depth (g.declaration limits r))))
+    law_declarations : (depth : ℕ) → LawWhere P true (either heading_begins (is (Word w.Begin))) (is (Word w.Begin)) (p.declarations limits depth q)
+        (rule.◌<$>◌ of_records (many (rule.deeper depth (g.declaration limits r))))
     unfolding p.declarations p.further_declaration
     law_declarations depth =
         law_as (declarations_same depth)
-        (law_repeated p.with_one_more p.declaring (is (Word w.Begin)) (law_deeper depth law_declaration) (falls_deeper depth falls_declaration) refl refl (within_any heading_begins) (within_any (is (Word w.Begin))) refl ([], []))
+        (law_repeated p.with_one_more p.declaring (is (Word w.Begin)) (law_deeper depth law_declaration)
+        (falls_deeper depth falls_declaration) refl refl (within_any heading_begins) (within_any (is (Word w.Begin))) refl ([], []))
 
     -- ---- blocks
 
-    pub law_block : (P → has_room limits.openers ≡ true) → (program : Option ProgramHeading) (depth : ℕ) → LawWhere P true block_begins any (p.block_with limits program depth q) (g.block_with limits program depth r)
+    pub law_block : (P → has_room limits.openers ≡ true) → (program : Option ProgramHeading) (depth : ℕ) →
+        LawWhere P true block_begins any (p.block_with limits program depth q) (g.block_with limits program depth r)
     unfolding p.block_with
     law_block room program depth =
         law_begun block_begins refl
@@ -213,7 +221,8 @@ module _ (limits : Limits) where
   unfolding p.parameters p.some_parameters
   law_parameters =
       law_branch (is (Symbol s.LeftParen))
-      (law_then (law_symbol s.LeftParen) (within_any (is next.Identifier)) (λ z. law_then law_identifiers refl (λ names. law_then (law_symbol s.RightParen) (within_any (is (Symbol s.Semicolon))) (λ y. law_pure names (is (Symbol s.Semicolon))))))
+      (law_then (law_symbol s.LeftParen) (within_any (is next.Identifier)) (λ z. law_then law_identifiers refl
+      (λ names. law_then (law_symbol s.RightParen) (within_any (is (Symbol s.Semicolon))) (λ y. law_pure names (is (Symbol s.Semicolon))))))
       refl refl (law_pure [] (is (Symbol s.Semicolon)))
 
   abbrev a_heading : Identifier → List Identifier → ProgramHeading
@@ -245,8 +254,28 @@ module _ (limits : Limits) where
         let h = d.2 in
         let n = h.3 in
         let a = n.3 in
-        let c = a.3 in
-        (h.0, h.1, h.2, (n.0, n.1, n.2, (a.0, a.1, a.2, (c.0, c.1, c.2, subst (λ m. behind_heading (a_heading n.0 a.0) m y j) (sym c.3.1) (subst (λ x. behind_heading x d.1 y j) (sym c.3.0) d.3)))));
+        let c = a.3 in (
+          h.0,
+          h.1,
+          h.2,
+          (
+            n.0,
+            n.1,
+            n.2,
+            (
+              a.0,
+              a.1,
+              a.2,
+              (
+                c.0,
+                c.1,
+                c.2,
+                subst (λ m. behind_heading (a_heading n.0 a.0) m y j) (sym c.3.1)
+                    (subst (λ x. behind_heading x d.1 y j) (sym c.3.0) d.3),
+              ),
+            ),
+          ),
+        );
     back = λ i y j d.
         let n = d.3 in
         let a = n.3 in

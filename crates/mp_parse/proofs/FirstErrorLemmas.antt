@@ -11,10 +11,11 @@ use Rattle.mp_ast.specs.FirstError.HasCode.{ends_early, follows_the_program, too
 use Rattle.mp_cursor.specs.declared.failure.Failure.{Failure}
 use Rattle.mp_cursor.specs.declared.failure.Failure.TheVariants.{Memory, Wrong, TooDeep, TooMany}
 use Rattle.mp_cursor.specs.Parsers.{Outcome}
-use Rattle.mp_cursor.proofs.Laws.{read}
+use Rattle.mp_cursor.proofs.RuleLaws.{read}
 use Rattle.mp_parse.specs.declared.errors.ParseError.{ParseError}
 use Rattle.mp_parse.specs.declared.errors.ParseError.TheVariants as error
-use Rattle.mp_parse.specs.Errors.{NamesFirstError, EndsEarly, FollowsTheProgram, IsOneBlockTooMany, IsNestedTooDeep, IsWrong, HasCodeWhere, IsFound, error_of, behind_program, first_error, first_error_of, told}
+use Rattle.mp_parse.specs.Errors.{NamesFirstError, HasCodeExactly, IsFound}
+use Rattle.mp_parse.specs.Errors.{error_of, behind_program, first_error, first_error_of, told}
 use Rattle.mp_parse.proofs.ProgramLemmas.{parsed, stopped, no_rest, is_derived}
 use Rattle.mp_parse.proofs.DeclarationLaws.{law_program}
 use Rattle.mp_parse.proofs.ErrorLemmas.{IsFirstWrong, stop_is_first, rest_is_first, same_count}
@@ -22,7 +23,8 @@ use Rattle.mp_parse.proofs.CauseLemmas.{CodeAt, fewer_viable, no_tree_stopped, p
 
 -- ---- the parser's error
 
-whole : (kinds : List TokenKind) (index left code : ℕ) → (HasTree standard kinds → ⊥) → IsFirstWrong kinds index → CodeAt kinds left code → index + left ≡ length kinds → IsFirstError standard kinds index code
+whole : (kinds : List TokenKind) (index left code : ℕ) → (HasTree standard kinds → ⊥) → IsFirstWrong kinds index → CodeAt kinds left code →
+    index + left ≡ length kinds → IsFirstError standard kinds index code
 whole kinds index left code n w c e = record { no_tree = n; within = w.within; before = w.before; at = w.at; cause = c index e }
 
 -- where the parser stops
@@ -31,7 +33,8 @@ stop_is_error kinds Memory h = tt
 stop_is_error kinds (Wrong zero) h = whole kinds (length kinds) 0 202 (no_tree_stopped kinds (Wrong zero) h) (stop_is_first kinds (Wrong zero) h) (code_early kinds) (omega arith)
 stop_is_error kinds (Wrong (suc left)) h =
     let l = place_within kinds (Wrong (suc left)) h in
-    whole kinds (length kinds - suc left) (suc left) 201 (no_tree_stopped kinds (Wrong (suc left)) h) (stop_is_first kinds (Wrong (suc left)) h) (code_wrong kinds left h) (omega arith)
+    whole kinds (length kinds - suc left) (suc left) 201 (no_tree_stopped kinds (Wrong (suc left)) h) (stop_is_first kinds (Wrong (suc left)) h)
+    (code_wrong kinds left h) (omega arith)
 stop_is_error kinds (TooDeep left) h =
     let l = place_within kinds (TooDeep left) h in
     whole kinds (length kinds - left) left 203 (no_tree_stopped kinds (TooDeep left) h) (stop_is_first kinds (TooDeep left) h) (code_deep kinds left h) (omega arith)
@@ -43,7 +46,8 @@ rest_index : (kinds : List TokenKind) (t : Tree) (j : Input) → parsed standard
 rest_index kinds t j h = let l = (law_program standard).shrinks (start_of kinds) t j h in omega arith
 
 -- where tokens are left behind a program
-pub rest_is_error : (kinds : List TokenKind) (t : Tree) (j : Input) → parsed standard kinds ≡ read t j → 0 < length j.rest → IsFirstError standard kinds (length kinds - length j.rest) 205
+pub rest_is_error : (kinds : List TokenKind) (t : Tree) (j : Input) → parsed standard kinds ≡ read t j → 0 < length j.rest →
+    IsFirstError standard kinds (length kinds - length j.rest) 205
 rest_is_error kinds t j h n =
     let w = rest_is_first kinds t j h n in
     whole kinds (length kinds - length j.rest) (length j.rest) 205 (λ d. no_rest standard kinds t d.0 j h n d.1) w (code_behind kinds t j h n) (rest_index kinds t j h)
@@ -56,7 +60,8 @@ names_error kinds (TooDeep n) h = stop_is_error kinds (TooDeep n) (h (λ q. let 
 names_error kinds (TooMany n) h = stop_is_error kinds (TooMany n) (h (λ q. let m : ⊥ = cc in m))
 
 -- what holds of the error of a failure in so many tokens
-pub told_by : (tokens now : List Token) (Holds : ParseError → Type 0) (e : Failure) (answer : ParseError) → now ≡ tokens → answer ≡ error_of e (length now) → Holds (error_of e (length (kinds_of tokens))) → Holds answer
+pub told_by : (tokens now : List Token) (Holds : ParseError → Type 0) (e : Failure) (answer : ParseError) → now ≡ tokens →
+    answer ≡ error_of e (length now) → Holds (error_of e (length (kinds_of tokens))) → Holds answer
 told_by tokens now Holds e answer t a h = subst Holds (sym a) (subst (λ n. Holds (error_of e n)) (same_count tokens ∙ ap (λ ts. length ts) (sym t)) h)
 
 -- ---- two first errors of one list
@@ -118,63 +123,12 @@ module _ (limits : Limits) (kinds : List TokenKind) where
       let s = one_index i j c d e f (order i j) in
       (s, one_code limits kinds i c d e.cause (subst (λ n. HasCode limits kinds n d) (sym s) f.cause))
 
--- ---- each code where its cause is
+-- ---- a code, where its token has it
 
-module _ (kinds : List TokenKind) where
-  early : (index code : ℕ) → HasCode standard kinds index code → code ≡ 202 → EndsEarly kinds index
-  early index _ (ends_early e) h = e
-  early index _ (follows_the_program l t) h = absurd (omega (arith, h))
-  early index _ (too_many_blocks l n m) h = absurd (omega (arith, h))
-  early index _ (nested_too_deep l n m d) h = absurd (omega (arith, h))
-  early index _ (wrong l n d) h = absurd (omega (arith, h))
-
-  behind : (index code : ℕ) → HasCode standard kinds index code → code ≡ 205 → FollowsTheProgram kinds index
-  behind index _ (ends_early e) h = absurd (omega (arith, h))
-  behind index _ (follows_the_program l t) h = (l, t)
-  behind index _ (too_many_blocks l n m) h = absurd (omega (arith, h))
-  behind index _ (nested_too_deep l n m d) h = absurd (omega (arith, h))
-  behind index _ (wrong l n d) h = absurd (omega (arith, h))
-
-  many : (index code : ℕ) → HasCode standard kinds index code → code ≡ 204 → IsOneBlockTooMany kinds index
-  many index _ (ends_early e) h = absurd (omega (arith, h))
-  many index _ (follows_the_program l t) h = absurd (omega (arith, h))
-  many index _ (too_many_blocks l n m) h = (l, n, m)
-  many index _ (nested_too_deep l n m d) h = absurd (omega (arith, h))
-  many index _ (wrong l n d) h = absurd (omega (arith, h))
-
-  deep : (index code : ℕ) → HasCode standard kinds index code → code ≡ 203 → IsNestedTooDeep kinds index
-  deep index _ (ends_early e) h = absurd (omega (arith, h))
-  deep index _ (follows_the_program l t) h = absurd (omega (arith, h))
-  deep index _ (too_many_blocks l n m) h = absurd (omega (arith, h))
-  deep index _ (nested_too_deep l n m d) h = (l, n, m, d)
-  deep index _ (wrong l n d) h = absurd (omega (arith, h))
-
-  otherwise : (index code : ℕ) → HasCode standard kinds index code → code ≡ 201 → IsWrong kinds index
-  otherwise index _ (ends_early e) h = absurd (omega (arith, h))
-  otherwise index _ (follows_the_program l t) h = absurd (omega (arith, h))
-  otherwise index _ (too_many_blocks l n m) h = absurd (omega (arith, h))
-  otherwise index _ (nested_too_deep l n m d) h = absurd (omega (arith, h))
-  otherwise index _ (wrong l n d) h = (l, n, d)
-
-  pub ends_early_where : (e : ParseError) → NamesFirstError kinds e → HasCodeWhere 202 (EndsEarly kinds) e
-  ends_early_where error.Memory h = tt
-  ends_early_where (error.Syntax index code) h = (early index code h.cause, λ c. one_code standard kinds index code 202 h.cause (ends_early c))
-
-  pub follows_where : (e : ParseError) → NamesFirstError kinds e → HasCodeWhere 205 (FollowsTheProgram kinds) e
-  follows_where error.Memory h = tt
-  follows_where (error.Syntax index code) h = (behind index code h.cause, λ c. one_code standard kinds index code 205 h.cause (follows_the_program c.0 c.1))
-
-  pub too_many_where : (e : ParseError) → NamesFirstError kinds e → HasCodeWhere 204 (IsOneBlockTooMany kinds) e
-  too_many_where error.Memory h = tt
-  too_many_where (error.Syntax index code) h = (many index code h.cause, λ c. one_code standard kinds index code 204 h.cause (too_many_blocks c.0 c.1 c.2))
-
-  pub too_deep_where : (e : ParseError) → NamesFirstError kinds e → HasCodeWhere 203 (IsNestedTooDeep kinds) e
-  too_deep_where error.Memory h = tt
-  too_deep_where (error.Syntax index code) h = (deep index code h.cause, λ c. one_code standard kinds index code 203 h.cause (nested_too_deep c.0 c.1 c.2 c.3))
-
-  pub wrong_where : (e : ParseError) → NamesFirstError kinds e → HasCodeWhere 201 (IsWrong kinds) e
-  wrong_where error.Memory h = tt
-  wrong_where (error.Syntax index code) h = (otherwise index code h.cause, λ c. one_code standard kinds index code 201 h.cause (wrong c.0 c.1 c.2))
+pub code_where : (kinds : List TokenKind) (e : ParseError) → NamesFirstError kinds e → (code : ℕ) → HasCodeExactly code kinds e
+code_where kinds error.Memory h code = tt
+code_where kinds (error.Syntax index given) h code =
+    (λ e. subst (λ c. HasCode standard kinds index c) e h.cause, λ c. one_code standard kinds index given code h.cause c)
 
 -- ---- the error that the parser finds
 
@@ -185,7 +139,8 @@ found_told kinds (Wrong (suc left)) n h = h
 found_told kinds (TooDeep left) n h = h
 found_told kinds (TooMany left) n h = h
 
-found_behind : (kinds : List TokenKind) (t : Tree) (j : Input) → parsed standard kinds ≡ read t j → (left : ℕ) → length j.rest ≡ left → IsFound kinds (behind_program left (length kinds))
+found_behind : (kinds : List TokenKind) (t : Tree) (j : Input) → parsed standard kinds ≡ read t j → (left : ℕ) → length j.rest ≡ left →
+    IsFound kinds (behind_program left (length kinds))
 found_behind kinds t j h zero e = (t, is_derived standard kinds t j h (omega (arith, e)))
 found_behind kinds t j h (suc left) e = subst (λ n. IsFirstError standard kinds (length kinds - n) 205) e (rest_is_error kinds t j h (omega (arith, e)))
 

@@ -6,7 +6,7 @@ use Rattle.mp_ast.specs.Rules.{Input}
 use Rattle.mp_ast.specs.Programs.{standard}
 use Rattle.mp_cursor.specs.declared.failure.Failure.{Failure}
 use Rattle.mp_cursor.specs.declared.failure.Failure.TheVariants.{Memory, Wrong, TooDeep, TooMany}
-use Rattle.mp_cursor.proofs.Laws.{read}
+use Rattle.mp_cursor.proofs.RuleLaws.{read}
 use Rattle.mp_parse.specs.declared.errors.ParseError.TheVariants as error
 use Rattle.mp_parse.specs.Errors.{first_error, first_error_of, behind_program, told, error_of}
 use Rattle.mp_parse.proofs.ProgramLemmas.{parsed, stopped}
@@ -16,7 +16,8 @@ unfolding first_error
 finds_stop kinds e h = ap (λ o. first_error_of o (length kinds)) h
 
 -- where the parser stops
-pub stop_found : (kinds : List TokenKind) (e : Failure) → ((e ≡ Memory → ⊥) → parsed standard kinds ≡ stopped e) → error_of e (length kinds) ≢ error.Memory → first_error kinds ≡ told (error_of e (length kinds))
+pub stop_found : (kinds : List TokenKind) (e : Failure) → ((e ≡ Memory → ⊥) → parsed standard kinds ≡ stopped e) →
+    error_of e (length kinds) ≢ error.Memory → first_error kinds ≡ told (error_of e (length kinds))
 stop_found kinds Memory h n = absurd (n refl)
 stop_found kinds (Wrong left) h n = finds_stop kinds (Wrong left) (h (λ q. let m : ⊥ = cc in m))
 stop_found kinds (TooDeep left) h n = finds_stop kinds (TooDeep left) (h (λ q. let m : ⊥ = cc in m))
@@ -31,7 +32,8 @@ behind_none zero count h = refl
 behind_none (suc left) count h = absurd (omega (arith, h))
 
 -- where it reads a program and tokens are left
-pub rest_found : (kinds : List TokenKind) (t : Tree) (j : Input) → parsed standard kinds ≡ read t j → 0 < length j.rest → first_error kinds ≡ Some (record { token = length kinds - length j.rest; code = 205 })
+pub rest_found : (kinds : List TokenKind) (t : Tree) (j : Input) → parsed standard kinds ≡ read t j → 0 < length j.rest →
+    first_error kinds ≡ Some (record { token = length kinds - length j.rest; code = 205 })
 unfolding first_error
 rest_found kinds t j h n = ap (λ o. first_error_of o (length kinds)) h ∙ behind_some (length j.rest) (length kinds) n
 

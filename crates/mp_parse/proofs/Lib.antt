@@ -14,3 +14,4 @@ pub mod ErrorLemmas
 pub mod CauseLemmas
 pub mod FirstErrorLemmas
 pub mod FoundLemmas
+mod StoppedLemmas

@@ -7,7 +7,7 @@ use Rattle.mp_ast.specs.BlockGrammar.{Limits}
 use Rattle.mp_cursor.specs.declared.failure.Failure.TheVariants.{Memory, Wrong, TooDeep, TooMany}
 use Rattle.mp_cursor.specs.Parsers.{Outcome, Parser, with_own_ordinals, back_at, ◌<$>◌}
 use Rattle.mp_cursor.proofs.Settled.{put}
-use Rattle.mp_cursor.proofs.Laws.{read, read_is}
+use Rattle.mp_cursor.proofs.RuleLaws.{read, read_is}
 use Rattle.mp_parse.specs.Blocks as p
 use Rattle.mp_parse.specs.Locality.{IsLocal}
 use Rattle.mp_parse.proofs.DeclarationLaws.{law_nested_block}
@@ -34,7 +34,8 @@ own_at at to (Err e) x j h = absurd (let n : ⊥ = cc in n)
 
 -- where the ordinals of the block around stand makes no difference
 module _ (limits : Limits) where
-  moved_at : (depth to : ℕ) (i : Input) (x : Tree) (j : Input) → p.nested_block limits depth i ≡ read x j → p.nested_block limits depth (record i { at = to }) ≡ read x (record j { at = to })
+  moved_at : (depth to : ℕ) (i : Input) (x : Tree) (j : Input) → p.nested_block limits depth i ≡ read x j →
+      p.nested_block limits depth (record i { at = to }) ≡ read x (record j { at = to })
   unfolding p.nested_block with_own_ordinals
   moved_at zero to i x j h = absurd (let n : ⊥ = cc in n)
   moved_at (suc depth) to i x j h = own_by i.at to ((p.tree_of limits <$> p.block_with limits None depth (p.nested_block limits depth)) (record i { at = 0 })) x j h
@@ -63,7 +64,8 @@ strictly_fewer limits below above l = record {
 }
 
 same_depth : {Same : Type 0} (depth : ℕ) → Behind Same ⊥ (suc depth) (suc depth)
-same_depth depth = record { room_less = depth; high_less = depth; room_is = refl; high_is = refl; limit = record { no_lower = omega arith; same = λ s. refl; higher = λ h. absurd h } }
+same_depth depth =
+    record { room_less = depth; high_less = depth; room_is = refl; high_is = refl; limit = record { no_lower = omega arith; same = λ s. refl; higher = λ h. absurd h } }
 
 grown : {A : Type 0} (n declared : ℕ) (o : Outcome A) (x : A) (j : Input) → o ≡ read x j → Inside n declared o → declared ≤ j.declared
 grown n declared (Ok q) x j h s = let e = ap (λ m. m.declared) (read_is q.0 x q.1 j h).1 in let l = s.1 in omega arith
@@ -81,21 +83,26 @@ module _ (limits : Limits) (depth : ℕ) where
   grows i x j h = grown (length i.rest) i.declared (nested i) x j h ((raised_nested (fewer limits 0 0 (omega arith)) (suc depth) (suc depth)).inside i)
 
   -- fewer before, or as many
-  down_by : (i : Input) (x : Tree) (j : Input) (d : ℕ) (o u : Outcome Tree) → o ≡ read x j → Raised ⊥ ⊥ ⊥ (from limits i.declared d) o u → i.declared ≤ j.declared → u ≡ read x (record j { declared = d + (j.declared - i.declared) })
+  down_by : (i : Input) (x : Tree) (j : Input) (d : ℕ) (o u : Outcome Tree) → o ≡ read x j → Raised ⊥ ⊥ ⊥ (from limits i.declared d) o u →
+      i.declared ≤ j.declared → u ≡ read x (record j { declared = d + (j.declared - i.declared) })
   down_by i x j d (Ok q) u h r g =
       let w = read_is q.0 x q.1 j h in
       let e = ap (λ m. m.declared) w.1 in
       let s = r.1 in
-      r.3 ∙ ap (λ y. read y (record q.1 { declared = r.0 })) w.0 ∙ ap (λ m. read x (record m { declared = r.0 })) w.1 ∙ ap (λ n. read x (record j { declared = n })) (let z : r.0 ≡ d + (j.declared - i.declared) = omega arith in z)
+      r.3 ∙ ap (λ y. read y (record q.1 { declared = r.0 })) w.0 ∙ ap (λ m. read x (record m { declared = r.0 })) w.1 ∙
+      ap (λ n. read x (record j { declared = n })) (let z : r.0 ≡ d + (j.declared - i.declared) = omega arith in z)
   down_by i x j d (Err e) u h r g = absurd (let n : ⊥ = cc in n)
 
-  down : (i : Input) (x : Tree) (j : Input) (d : ℕ) → nested i ≡ read x j → d ≤ i.declared → nested (record i { declared = d }) ≡ read x (record j { declared = d + (j.declared - i.declared) })
+  down : (i : Input) (x : Tree) (j : Input) (d : ℕ) → nested i ≡ read x j → d ≤ i.declared →
+      nested (record i { declared = d }) ≡ read x (record j { declared = d + (j.declared - i.declared) })
   down i x j d h l =
       down_by i x j d (nested i) (nested (record i { declared = d })) h
       ((raised_nested (fewer limits i.declared d l) (suc depth) (suc depth)).raised (same_depth depth) i d refl (omega arith) (λ n. absurd n, λ n. absurd n)) (grows i x j h)
 
   -- more before: with fewer it reads the same as with these
-  up_by : (i : Input) (x : Tree) (j : Input) (d : ℕ) (o u : Outcome Tree) → u ≡ read x j → Raised (Unit {0}) ⊥ (Unit {0}) (from limits d i.declared) o u → i.declared ≤ j.declared → d + (j.declared - i.declared) ≤ limits.declarations → o ≡ read x (record j { declared = d + (j.declared - i.declared) })
+  up_by : (i : Input) (x : Tree) (j : Input) (d : ℕ) (o u : Outcome Tree) → u ≡ read x j → Raised (Unit {0}) ⊥ (Unit {0})
+      (from limits d i.declared) o u → i.declared ≤ j.declared → d + (j.declared - i.declared) ≤ limits.declarations →
+      o ≡ read x (record j { declared = d + (j.declared - i.declared) })
   up_by i x j d (Ok q) u h r g few =
       let w = read_is q.0 x (record q.1 { declared = r.0 }) j (sym r.3 ∙ h) in
       let s = r.1 in
@@ -110,10 +117,12 @@ module _ (limits : Limits) (depth : ℕ) where
       too_many : (n : ℕ) → (other : ℕ) × (limits.declarations + i.declared < other + d) × Past n other u → ⊥
       too_many n w = let l = w.1 in let m = past_read n w.0 u x j h w.2 in omega (arith, few, g)
 
-  up : (i : Input) (x : Tree) (j : Input) (d : ℕ) → nested i ≡ read x j → i.declared < d → d + (j.declared - i.declared) ≤ limits.declarations → nested (record i { declared = d }) ≡ read x (record j { declared = d + (j.declared - i.declared) })
+  up : (i : Input) (x : Tree) (j : Input) (d : ℕ) → nested i ≡ read x j → i.declared < d → d + (j.declared - i.declared) ≤ limits.declarations →
+      nested (record i { declared = d }) ≡ read x (record j { declared = d + (j.declared - i.declared) })
   up i x j d h l few =
       up_by i x j d (nested (record i { declared = d })) (nested i) h
-      ((raised_nested (strictly_fewer limits d i.declared l) (suc depth) (suc depth)).raised (same_depth depth) (record i { declared = d }) i.declared refl (omega arith) (λ n. absurd n, λ n. omega (arith, few))) (grows i x j h) few
+      ((raised_nested (strictly_fewer limits d i.declared l) (suc depth) (suc depth)).raised (same_depth depth)
+      (record i { declared = d }) i.declared refl (omega arith) (λ n. absurd n, λ n. omega (arith, few))) (grows i x j h) few
 
   either_way : (d n : ℕ) → (d ≤ n) ⊎ (n < d)
   either_way zero n = inl (omega arith)
@@ -124,7 +133,8 @@ module _ (limits : Limits) (depth : ℕ) where
       further (inl l) = inl (omega (arith, l))
       further (inr l) = inr (omega (arith, l))
 
-  moved : (i : Input) (x : Tree) (j : Input) (d : ℕ) → nested i ≡ read x j → d + (j.declared - i.declared) ≤ limits.declarations → (d ≤ i.declared) ⊎ (i.declared < d) → nested (record i { declared = d }) ≡ read x (record j { declared = d + (j.declared - i.declared) })
+  moved : (i : Input) (x : Tree) (j : Input) (d : ℕ) → nested i ≡ read x j → d + (j.declared - i.declared) ≤ limits.declarations →
+      (d ≤ i.declared) ⊎ (i.declared < d) → nested (record i { declared = d }) ≡ read x (record j { declared = d + (j.declared - i.declared) })
   moved i x j d h few (inl l) = down i x j d h l
   moved i x j d h few (inr l) = up i x j d h l few
 
@@ -138,7 +148,8 @@ module _ (limits : Limits) (depth : ℕ) where
         declared = grows i x j h;
         anywhere = λ at d rest few.
             let here = (law_nested_block limits (suc depth)).complete (put i (w.kinds ++ rest)) x (put j rest) (w.anywhere rest) refl in
-            moved_at limits (suc depth) at (put (record i { declared = d }) (w.kinds ++ rest)) x (put (record j { declared = d + (j.declared - i.declared) }) rest) (moved (put i (w.kinds ++ rest)) x (put j rest) d here few (either_way d i.declared));
+            moved_at limits (suc depth) at (put (record i { declared = d }) (w.kinds ++ rest)) x
+            (put (record j { declared = d + (j.declared - i.declared) }) rest) (moved (put i (w.kinds ++ rest)) x (put j rest) d here few (either_way d i.declared));
       }
 
 pub blocks_are_local : (limits : Limits) (depth : ℕ) → IsLocal limits.declarations (p.nested_block limits depth)

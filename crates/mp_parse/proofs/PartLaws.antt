@@ -11,6 +11,7 @@ use Rattle.mp_ast.specs.declared.blocks.ConstantDefinition.{ConstantDefinition}
 use Rattle.mp_ast.specs.declared.blocks.TypeDefinition.{TypeDefinition}
 use Rattle.mp_ast.specs.TypeGrammar as type_grammar
 use Rattle.mp_cursor.specs.Leaves.{constant}
+use Rattle.mp_cursor.specs.LeafTokens.{constant_begins}
 use Rattle.mp_parse_type.specs.Types as types
 use Rattle.mp_ast.specs.Rules.{Rule}
 use Rattle.mp_ast.specs.Rules as rule
@@ -21,11 +22,11 @@ use Rattle.mp_cursor.specs.declared.next.Next.TheVariants.{Word, Symbol}
 use Rattle.mp_cursor.specs.Nexts.{Nexts, is, any, either, among}
 use Rattle.mp_cursor.specs.Parsers.{Parser, ◌>>=◌, ◌>>◌, pure, branch, expect, repeated, and_one}
 use Rattle.mp_cursor.proofs.NextSets.{within, apart, within_any, within_itself}
-use Rattle.mp_cursor.proofs.Laws.{Law, LawWhere, law_where, law_pure, law_then, law_followed, law_word, law_symbol, law_ends, symbol_only}
+use Rattle.mp_cursor.proofs.RuleLaws.{Law, LawWhere, law_where, law_pure, law_then, law_followed, law_word, law_symbol, law_ends, symbol_only}
 use Rattle.mp_cursor.proofs.LeafLaws.{law_identifier, law_number, has_room, law_opened_word}
 use Rattle.mp_cursor.proofs.ChoiceLaws.{law_branch}
 use Rattle.mp_cursor.proofs.ListLaws.{Falls, falls_then, falls_last, falls_symbol, falls_identifier, law_many_from, law_separated}
-use Rattle.mp_cursor.proofs.ConstantLaws.{law_constant, constant_begins}
+use Rattle.mp_cursor.proofs.ConstantLaws.{law_constant}
 use Rattle.mp_parse_type.proofs.TypeLaws.{law_denoter, law_section, denoter_begins}
 use Rattle.mp_parse_stmt.proofs.StatementLaws.{law_sequence_behind}
 use Rattle.mp_parse.specs.Blocks as p
@@ -33,13 +34,17 @@ use Rattle.mp_parse.specs.Blocks as p
 -- ---- in general
 
 -- a part that may be left out
-law_part : {A : Type 0} {u : Bool} {f : Nexts} {q : Parser (List A)} {r : Rule (List A)} (test follow : Nexts) → Law u f follow q r → within f test ≡ true → apart follow test ≡ true → Law true (either f follow) follow (branch test q (pure [])) (g.part r)
+law_part : {A : Type 0} {u : Bool} {f : Nexts} {q : Parser (List A)} {r : Rule (List A)} (test follow : Nexts) → Law u f follow q r →
+    within f test ≡ true → apart follow test ≡ true → Law true (either f follow) follow (branch test q (pure [])) (g.part r)
 law_part test follow a inside outside = law_branch test a inside outside (law_pure [] follow)
 
 -- one after another, at least one, each beginning with a name
-module _ {A : Type 0} {q : Parser A} {r : Rule A} (follow : Nexts) (a : Law true (is next.Identifier) any q r) (falls : Falls q) (stops : apart follow (is next.Identifier) ≡ true) where
+module _ {A : Type 0} {q : Parser A} {r : Rule A} (follow : Nexts) (a : Law true (is next.Identifier) any q r) (falls : Falls q)
+    (stops : apart follow (is next.Identifier) ≡ true) where
   pub law_some : Law true (is next.Identifier) follow (q >>= (λ first. repeated (is next.Identifier) (and_one q) (first ∷ []))) (g.some r)
-  law_some = law_then a (within_any (either (is next.Identifier) follow)) (λ first. law_many_from (is next.Identifier) follow a falls refl stops (within_any (is next.Identifier)) (within_any follow) refl (first ∷ []))
+  law_some =
+      law_then a (within_any (either (is next.Identifier) follow)) (λ first. law_many_from (is next.Identifier) follow a falls refl stops
+      (within_any (is next.Identifier)) (within_any follow) refl (first ∷ []))
 
 -- ---- what follows each part
 
@@ -80,9 +85,12 @@ abbrev a_constant : Identifier → Constant → ℕ → ConstantDefinition
 a_constant name value at = record { name = name; value = value; semicolon = at }
 
 -- behind its name
-constant_behind : (name : Identifier) → Law true (is (Symbol s.Equal)) any (expect (Symbol s.Equal) >> (constant >>= (λ value. expect (Symbol s.Semicolon) >>= (λ at. pure (a_constant name value at)))))
+constant_behind : (name : Identifier) → Law true (is (Symbol s.Equal)) any (expect (Symbol s.Equal) >>
+    (constant >>= (λ value. expect (Symbol s.Semicolon) >>= (λ at. pure (a_constant name value at)))))
     (rule.◌>>◌ (rule.symbol s.Equal) (rule.◌>>=◌ leaf.constant (λ value. rule.◌>>=◌ (rule.symbol s.Semicolon) (λ at. rule.gives (a_constant name value at)))))
-constant_behind name = law_then (law_symbol s.Equal) (within_any constant_begins) (λ z. law_then law_constant (within_any (is (Symbol s.Semicolon))) (λ value. law_then (law_symbol s.Semicolon) (within_any any) (λ at. law_pure (a_constant name value at) any)))
+constant_behind name =
+    law_then (law_symbol s.Equal) (within_any constant_begins) (λ z. law_then law_constant (within_any (is (Symbol s.Semicolon)))
+    (λ value. law_then (law_symbol s.Semicolon) (within_any any) (λ at. law_pure (a_constant name value at) any)))
 
 law_constant_definition : Law true (is next.Identifier) any p.constant_definition g.constant_definition
 unfolding p.constant_definition
@@ -106,9 +114,12 @@ module _ (openers : ℕ) where
   abbrev a_type : Identifier → Denoter → ℕ → TypeDefinition
   a_type name of at = record { name = name; of = of; semicolon = at }
 
-  type_behind : (name : Identifier) → Law true (is (Symbol s.Equal)) any (expect (Symbol s.Equal) >> (types.denoter openers >>= (λ of. expect (Symbol s.Semicolon) >>= (λ at. pure (a_type name of at)))))
+  type_behind : (name : Identifier) → Law true (is (Symbol s.Equal)) any (expect (Symbol s.Equal) >>
+      (types.denoter openers >>= (λ of. expect (Symbol s.Semicolon) >>= (λ at. pure (a_type name of at)))))
       (rule.◌>>◌ (rule.symbol s.Equal) (rule.◌>>=◌ (type_grammar.denoter openers) (λ of. rule.◌>>=◌ (rule.symbol s.Semicolon) (λ at. rule.gives (a_type name of at)))))
-  type_behind name = law_then (law_symbol s.Equal) (within_any denoter_begins) (λ z. law_then (law_denoter openers) refl (λ of. law_then (law_symbol s.Semicolon) (within_any any) (λ at. law_pure (a_type name of at) any)))
+  type_behind name =
+      law_then (law_symbol s.Equal) (within_any denoter_begins) (λ z. law_then (law_denoter openers) refl
+      (λ of. law_then (law_symbol s.Semicolon) (within_any any) (λ at. law_pure (a_type name of at) any)))
 
   law_type_definition : Law true (is next.Identifier) any (p.type_definition openers) (g.type_definition openers)
   unfolding p.type_definition
@@ -128,7 +139,8 @@ module _ (openers : ℕ) where
 
   -- ---- variables
 
-  section_behind : (found : Section Denoter) → Law true (is (Symbol s.Semicolon)) any (expect (Symbol s.Semicolon) >> pure found) (rule.◌>>◌ (rule.symbol s.Semicolon) (rule.gives found))
+  section_behind : (found : Section Denoter) → Law true (is (Symbol s.Semicolon)) any (expect (Symbol s.Semicolon) >> pure found)
+      (rule.◌>>◌ (rule.symbol s.Semicolon) (rule.gives found))
   section_behind found = law_then (law_symbol s.Semicolon) (within_any any) (λ z. law_pure found any)
 
   law_variable_section : Law true (is next.Identifier) any (p.variable_section openers) (g.variable_section openers)
@@ -149,7 +161,7 @@ module _ (openers : ℕ) where
 
   -- ---- statements
 
-  begun_part : Law (has_room openers) (is (Word w.Begin)) any (p.statement_part openers) (g.statement_part openers)
+  pub begun_part : Law (has_room openers) (is (Word w.Begin)) any (p.statement_part openers) (g.statement_part openers)
   unfolding p.statement_part
   begun_part =
       law_opened_word w.Begin refl openers (λ n e at.

@@ -10,11 +10,12 @@ use Rattle.mp_ast.specs.Programs.{Derives, HaveOneTree, start_of}
 use Rattle.mp_cursor.specs.declared.failure.Failure.{Failure}
 use Rattle.mp_cursor.specs.declared.failure.Failure.TheVariants.{Memory, Wrong, TooDeep, TooMany}
 use Rattle.mp_cursor.specs.Parsers.{Outcome}
-use Rattle.mp_cursor.proofs.Laws.{read, read_is}
+use Rattle.mp_cursor.proofs.RuleLaws.{read, read_is}
 use Rattle.mp_parse.specs.Blocks.{program, block}
 use Rattle.mp_parse.proofs.DeclarationLaws.{law_program, law_nested_block, law_block}
 
-pub block_shrinks : (limits : Limits) (heading : Option ProgramHeading) (depth : ℕ) (i : Input) (x : Block × List Tree) (j : Input) → block limits heading depth i ≡ read x j → length j.rest ≤ length i.rest
+pub block_shrinks : (limits : Limits) (heading : Option ProgramHeading) (depth : ℕ) (i : Input) (x : Block × List Tree) (j : Input) →
+    block limits heading depth i ≡ read x j → length j.rest ≤ length i.rest
 block_shrinks limits heading depth i x j h = (law_block (law_nested_block limits depth) limits (λ room. room) heading depth).shrinks i x j h
 
 -- the parser on a whole list

@@ -12,10 +12,13 @@ use Rattle.mp_cursor.specs.declared.failure.Failure.TheVariants.{Memory, Wrong, 
 use Rattle.mp_cursor.specs.declared.next.Next.{Next}
 use Rattle.mp_cursor.specs.declared.next.Next.TheVariants as next
 use Rattle.mp_cursor.specs.Nexts.{next_of, is, any, Nexts}
-use Rattle.mp_cursor.specs.Parsers.{Outcome, Parser, and_then, ◌>>=◌, ◌<$>◌, pure, refuse, next_token, behind, behind_of, left, wrong, too_deep, branch, here, expect, opening, open_where, identifier, identifier_of, number, number_of, character_string, string_of, directive, directive_of, with_own_ordinals, back_at, loop, repeated, series, repeated_series, separated, optional}
+use Rattle.mp_cursor.specs.Parsers.{Outcome, Parser, and_then, ◌>>=◌, ◌<$>◌, pure, refuse, next_token, behind, behind_of, left, wrong, too_deep}
+use Rattle.mp_cursor.specs.Parsers.{branch, here, expect, opening, open_where, identifier, identifier_of, number, number_of, character_string}
+use Rattle.mp_cursor.specs.Parsers.{string_of, directive, directive_of, with_own_ordinals, back_at, loop, repeated, series, repeated_series}
+use Rattle.mp_cursor.specs.Parsers.{separated, optional}
 use Rattle.mp_cursor.specs.Leaves.{identifiers, sign, signs, optional_sign, signed_constant, constant, constants}
 use Rattle.mp_cursor.proofs.Settled.{place, stopped}
-use Rattle.mp_cursor.proofs.Laws.{read}
+use Rattle.mp_cursor.proofs.RuleLaws.{read}
 
 -- ---- outcomes
 
@@ -61,7 +64,8 @@ module _ (Same Higher More : Type 0) (count : Counting) where
   -- two parsers of the same, before such a token; how they are related is only promised where `Granted` is
   pub record RaisesBefore {A : Type 0} (Granted : Type 0) (first : Nexts) (p q : Parser A) : Type 0 where
     pub inside : (i : Input) → Inside (length i.rest) i.declared (q i)
-    pub raised : Granted → (i : Input) (other : ℕ) → first (next_token i) ≡ true → Counted count i.declared other → Few Higher More count i.declared → Raised (p i) (q (record i { declared = other }))
+    pub raised : Granted → (i : Input) (other : ℕ) → first (next_token i) ≡ true → Counted count i.declared other → Few Higher More count i.declared →
+        Raised (p i) (q (record i { declared = other }))
 
   abbrev pub Raises : {A : Type 0} → Type 0 → Parser A → Parser A → Type 0
   Raises Granted p q = RaisesBefore Granted any p q
@@ -102,7 +106,8 @@ plain_inside n declared other (Err (TooDeep m)) u h = absurd h
 plain_inside n declared other (Err (TooMany m)) u h = absurd h
 
 module _ (Same Higher More : Type 0) (count : Counting) where
-  plain_raised : {A : Type 0} (n declared other : ℕ) (o u : Outcome A) → Counted count declared other → Few Higher More count declared → Plain n declared other o u → Raised Same Higher More count o u
+  plain_raised : {A : Type 0} (n declared other : ℕ) (o u : Outcome A) → Counted count declared other → Few Higher More count declared →
+      Plain n declared other o u → Raised Same Higher More count o u
   plain_raised n declared other (Ok p) u s l h = let e = h.1 in (other, omega (arith, s, e), few_is count declared p.1.declared e l, h.2)
   plain_raised n declared other (Err Memory) u s l h = absurd h
   plain_raised n declared other (Err (Wrong m)) u s l h = h.1
@@ -110,7 +115,8 @@ module _ (Same Higher More : Type 0) (count : Counting) where
   plain_raised n declared other (Err (TooMany m)) u s l h = absurd h
 
 module _ {Same Higher More : Type 0} {count : Counting} where
-  raised_plain : {A : Type 0} {G : Type 0} {f : Nexts} (p : Parser A) → ((i : Input) (other : ℕ) → Plain (length i.rest) i.declared other (p i) (p (record i { declared = other }))) → RaisesBefore Same Higher More count G f p p
+  raised_plain : {A : Type 0} {G : Type 0} {f : Nexts} (p : Parser A) → ((i : Input) (other : ℕ) →
+      Plain (length i.rest) i.declared other (p i) (p (record i { declared = other }))) → RaisesBefore Same Higher More count G f p p
   raised_plain p a = record {
     inside = λ i. plain_inside (length i.rest) i.declared i.declared (p i) (p (record i { declared = i.declared })) (a i i.declared);
     raised = λ g i other e s l. plain_raised Same Higher More count (length i.rest) i.declared other (p i) (p (record i { declared = other })) s l (a i other);
@@ -134,7 +140,8 @@ behind_other : (at declared other : ℕ) (ks : List TokenKind) → behind_of at 
 behind_other at declared other [] = refl
 behind_other at declared other (k ∷ ks) = refl
 
-expect_plain : (b : Bool) (i : Input) (other : ℕ) → Plain (length i.rest) i.declared other (if b then read i.at (behind i) else Err (wrong i)) (if b then read i.at (behind (record i { declared = other })) else Err (wrong (record i { declared = other })))
+expect_plain : (b : Bool) (i : Input) (other : ℕ) → Plain (length i.rest) i.declared other (if b then read i.at (behind i) else Err (wrong i))
+    (if b then read i.at (behind (record i { declared = other })) else Err (wrong (record i { declared = other })))
 unfolding behind wrong left
 expect_plain true i other = let w = behind_plain i.at i.declared i.rest in (w.0, w.1, ap (λ m. read i.at m) (behind_other i.at i.declared other i.rest))
 expect_plain false i other = (omega arith, refl)
@@ -166,11 +173,13 @@ string_plain at declared other (kind.Symbol v ∷ ks) = (omega arith, refl)
 abbrev spelled_at : ℕ → ℕ → TokenKind → List TokenKind → Bool → Outcome ℕ
 spelled_at at declared k ks b = if b then Ok (at, record { at = at + 1; declared = declared; rest = ks }) else Err (Wrong (length (k ∷ ks)))
 
-spelled_plain : (at declared other : ℕ) (k : TokenKind) (ks : List TokenKind) (b : Bool) → Plain (length (k ∷ ks)) declared other (spelled_at at declared k ks b) (spelled_at at other k ks b)
+spelled_plain : (at declared other : ℕ) (k : TokenKind) (ks : List TokenKind) (b : Bool) → Plain (length (k ∷ ks)) declared other
+    (spelled_at at declared k ks b) (spelled_at at other k ks b)
 spelled_plain at declared other k ks true = (omega arith, refl, refl)
 spelled_plain at declared other k ks false = (omega arith, refl)
 
-directive_plain : (spelling : List ℕ) (at declared other : ℕ) (ks : List TokenKind) → Plain (length ks) declared other (directive_of spelling at declared ks) (directive_of spelling at other ks)
+directive_plain : (spelling : List ℕ) (at declared other : ℕ) (ks : List TokenKind) → Plain (length ks) declared other
+    (directive_of spelling at declared ks) (directive_of spelling at other ks)
 directive_plain spelling at declared other [] = (omega arith, refl)
 directive_plain spelling at declared other (kind.Id v ∷ ks) = spelled_plain at declared other (kind.Id v) ks (bytes_eq v spelling)
 directive_plain spelling at declared other (kind.Number v ∷ ks) = (omega arith, refl)
@@ -202,7 +211,8 @@ chosen_inside : {A : Type 0} (n declared : ℕ) (b : Bool) (o u : Outcome A) →
 chosen_inside n declared true o u h g = h
 chosen_inside n declared false o u h g = g
 
-chosen_raised : (Same Higher More : Type 0) (count : Counting) {A : Type 0} (b : Bool) (o u o' u' : Outcome A) → (b ≡ true → Raised Same Higher More count o o') → Raised Same Higher More count u u' → Raised Same Higher More count (if b then o else u) (if b then o' else u')
+chosen_raised : (Same Higher More : Type 0) (count : Counting) {A : Type 0} (b : Bool) (o u o' u' : Outcome A) →
+    (b ≡ true → Raised Same Higher More count o o') → Raised Same Higher More count u u' → Raised Same Higher More count (if b then o else u) (if b then o' else u')
 chosen_raised Same Higher More count true o u o' u' h g = h refl
 chosen_raised Same Higher More count false o u o' u' h g = g
 
@@ -241,33 +251,39 @@ module _ {Same Higher More : Type 0} {count : Counting} {G : Type 0} where
     raised_first g (Err (TooDeep n)) o' h = (λ s. ap (λ u. and_then u q') (h.0 s), λ t. past_then n 0 o' (h.1 t))
     raised_first g (Err (TooMany n)) o' h = λ m. let w = h m in (w.0, w.1, past_then n w.0 o' w.2)
 
-  pub raised_then : {A B : Type 0} {f : Nexts} {p p' : Parser A} {q q' : A → Parser B} → RaisesBefore Same Higher More count G f p p' → ((x : A) → Raises Same Higher More count G (q x) (q' x)) → RaisesBefore Same Higher More count G f (p >>= q) (p' >>= q')
+  pub raised_then : {A B : Type 0} {f : Nexts} {p p' : Parser A} {q q' : A → Parser B} → RaisesBefore Same Higher More count G f p p' →
+      ((x : A) → Raises Same Higher More count G (q x) (q' x)) → RaisesBefore Same Higher More count G f (p >>= q) (p' >>= q')
   raised_then {p = p} {p' = p'} a b = record {
     inside = λ i. inside_then b (length i.rest) i.declared (p' i) (a.inside i);
     raised = λ g i other e s l. raised_first b g (p i) (p' (record i { declared = other })) (a.raised g i other e s l);
   }
 
-  pub raised_map : {A B : Type 0} {f : Nexts} {p p' : Parser A} (c : A → B) → RaisesBefore Same Higher More count G f p p' → RaisesBefore Same Higher More count G f (c <$> p) (c <$> p')
+  pub raised_map : {A B : Type 0} {f : Nexts} {p p' : Parser A} (c : A → B) → RaisesBefore Same Higher More count G f p p' →
+      RaisesBefore Same Higher More count G f (c <$> p) (c <$> p')
   raised_map c a = raised_then a (λ x. raised_pure)
 
   -- ---- choices
 
   -- the first one is taken before such a token alone
-  pub raised_where : {A : Type 0} (f : Nexts) {g : Nexts} {p p' q q' : Parser A} → RaisesBefore Same Higher More count G f p p' → RaisesBefore Same Higher More count G g q q' → RaisesBefore Same Higher More count G g (branch f p q) (branch f p' q')
+  pub raised_where : {A : Type 0} (f : Nexts) {g : Nexts} {p p' q q' : Parser A} → RaisesBefore Same Higher More count G f p p' →
+      RaisesBefore Same Higher More count G g q q' → RaisesBefore Same Higher More count G g (branch f p q) (branch f p' q')
   unfolding next_token
   raised_where f {p = p} {p' = p'} {q = q} {q' = q'} a c = record {
     inside = λ i. chosen_inside (length i.rest) i.declared (f (next_token i)) (p' i) (q' i) (a.inside i) (c.inside i);
     raised = λ g i other e s l.
-        chosen_raised Same Higher More count (f (next_token i)) (p i) (q i) (p' (record i { declared = other })) (q' (record i { declared = other })) (λ b. a.raised g i other b s l) (c.raised g i other e s l);
+        chosen_raised Same Higher More count (f (next_token i)) (p i) (q i) (p' (record i { declared = other })) (q' (record i { declared = other }))
+        (λ b. a.raised g i other b s l) (c.raised g i other e s l);
   }
 
   pub raised_before : {A : Type 0} {f : Nexts} {p p' : Parser A} → Raises Same Higher More count G p p' → RaisesBefore Same Higher More count G f p p'
   raised_before a = record { inside = a.inside; raised = λ g i other e s l. a.raised g i other refl s l }
 
-  pub raised_branch : {A : Type 0} (f : Nexts) {g : Nexts} {p p' q q' : Parser A} → Raises Same Higher More count G p p' → RaisesBefore Same Higher More count G g q q' → RaisesBefore Same Higher More count G g (branch f p q) (branch f p' q')
+  pub raised_branch : {A : Type 0} (f : Nexts) {g : Nexts} {p p' q q' : Parser A} → Raises Same Higher More count G p p' →
+      RaisesBefore Same Higher More count G g q q' → RaisesBefore Same Higher More count G g (branch f p q) (branch f p' q')
   raised_branch f a c = raised_where f (raised_before a) c
 
-  pub raised_optional : {A : Type 0} (f : Nexts) {g : Nexts} {p p' : Parser A} → Raises Same Higher More count G p p' → RaisesBefore Same Higher More count G g (optional f p) (optional f p')
+  pub raised_optional : {A : Type 0} (f : Nexts) {g : Nexts} {p p' : Parser A} → Raises Same Higher More count G p p' →
+      RaisesBefore Same Higher More count G g (optional f p) (optional f p')
   raised_optional f a = raised_branch f (raised_map Some a) raised_pure
 
   -- ---- lists
@@ -285,10 +301,12 @@ module _ {Same Higher More : Type 0} {count : Counting} {G : Type 0} where
       raised = λ g i other e s l. (raised_loop (left i) found).raised g i other e s l;
     }
 
-  pub raised_repeated_where : {A : Type 0} (f : Nexts) {turn turn' : A → Parser A} (found : A) → ((x : A) → RaisesBefore Same Higher More count G f (turn x) (turn' x)) → Raises Same Higher More count G (repeated f turn found) (repeated f turn' found)
+  pub raised_repeated_where : {A : Type 0} (f : Nexts) {turn turn' : A → Parser A} (found : A) →
+      ((x : A) → RaisesBefore Same Higher More count G f (turn x) (turn' x)) → Raises Same Higher More count G (repeated f turn found) (repeated f turn' found)
   raised_repeated_where f found a = raised_repeated_by f a found
 
-  pub raised_repeated : {A : Type 0} (f : Nexts) {turn turn' : A → Parser A} (found : A) → ((x : A) → Raises Same Higher More count G (turn x) (turn' x)) → Raises Same Higher More count G (repeated f turn found) (repeated f turn' found)
+  pub raised_repeated : {A : Type 0} (f : Nexts) {turn turn' : A → Parser A} (found : A) → ((x : A) →
+      Raises Same Higher More count G (turn x) (turn' x)) → Raises Same Higher More count G (repeated f turn found) (repeated f turn' found)
   raised_repeated f found a = raised_repeated_by f (λ x. raised_before (a x)) found
 
   module _ {A : Type 0} (separator : Next) (f : Nexts) {turn turn' : A → Parser A} (a : (x : A) → Raises Same Higher More count G (turn x) (turn' x)) where
@@ -305,10 +323,13 @@ module _ {Same Higher More : Type 0} {count : Counting} {G : Type 0} where
       raised = λ g i other e s l. (raised_series_by (left i) found).raised g i other e s l;
     }
 
-  pub raised_series : {A : Type 0} (separator : Next) (f : Nexts) {turn turn' : A → Parser A} (found : A) → ((x : A) → Raises Same Higher More count G (turn x) (turn' x)) → Raises Same Higher More count G (repeated_series separator f turn found) (repeated_series separator f turn' found)
+  pub raised_series : {A : Type 0} (separator : Next) (f : Nexts) {turn turn' : A → Parser A} (found : A) →
+      ((x : A) → Raises Same Higher More count G (turn x) (turn' x)) → Raises Same Higher More count G (repeated_series separator f turn found)
+      (repeated_series separator f turn' found)
   raised_series separator f found a = raised_series_from separator f a found
 
-  pub raised_separated : {A : Type 0} (separator : Next) {p p' : Parser A} → Raises Same Higher More count G p p' → Raises Same Higher More count G (separated separator p) (separated separator p')
+  pub raised_separated : {A : Type 0} (separator : Next) {p p' : Parser A} → Raises Same Higher More count G p p' →
+      Raises Same Higher More count G (separated separator p) (separated separator p')
   raised_separated separator a = raised_then a (λ x. raised_repeated _ _ (λ xs. raised_map _ (raised_then (raised_expect separator) (λ at. a))))
 
   -- ---- names, signs and constants
@@ -334,14 +355,17 @@ module _ {Same Higher More : Type 0} {count : Counting} {G : Type 0} where
   raised_constants = raised_separated (next.Symbol s.Comma) raised_constant
 
 -- where more is granted
-pub raised_granted : {Same Higher More : Type 0} {count : Counting} {G H : Type 0} {A : Type 0} {f : Nexts} {p p' : Parser A} → (H → G) → RaisesBefore Same Higher More count G f p p' → RaisesBefore Same Higher More count H f p p'
+pub raised_granted : {Same Higher More : Type 0} {count : Counting} {G H : Type 0} {A : Type 0} {f : Nexts} {p p' : Parser A} → (H → G) →
+    RaisesBefore Same Higher More count G f p p' → RaisesBefore Same Higher More count H f p p'
 raised_granted w a = record { inside = a.inside; raised = λ h i other e s l. a.raised (w h) i other e s l }
 
 -- where nothing is promised
-pub raised_never : {Same Higher More : Type 0} {count : Counting} {G H : Type 0} {A : Type 0} {f g : Nexts} {p q p' : Parser A} → (H → ⊥) → RaisesBefore Same Higher More count G f q p' → RaisesBefore Same Higher More count H g p p'
+pub raised_never : {Same Higher More : Type 0} {count : Counting} {G H : Type 0} {A : Type 0} {f g : Nexts} {p q p' : Parser A} → (H → ⊥) →
+    RaisesBefore Same Higher More count G f q p' → RaisesBefore Same Higher More count H g p p'
 raised_never n a = record { inside = a.inside; raised = λ h i other e s l. absurd (n h) }
 
-pub raised_refused : {Same Higher More : Type 0} {count : Counting} {H : Type 0} {A : Type 0} {g : Nexts} {p : Parser A} → (H → ⊥) → RaisesBefore Same Higher More count H g p refuse
+pub raised_refused : {Same Higher More : Type 0} {count : Counting} {H : Type 0} {A : Type 0} {g : Nexts} {p : Parser A} → (H → ⊥) →
+    RaisesBefore Same Higher More count H g p refuse
 raised_refused n = raised_never {G = Unit {0}} {f = any} n raised_refuse
 
 -- ---- openers
@@ -362,7 +386,8 @@ limit_less room high l = record {
 }
 
 pub less : {Same Higher : Type 0} (room high : ℕ) → Behind Same Higher (suc room) (suc high) → Limit Same Higher room high
-less {Same} {Higher} room high b = subst (λ n. Limit Same Higher n high) (let e = b.room_is in omega arith) (subst (λ n. Limit Same Higher b.room_less n) (let e = b.high_is in omega arith) b.limit)
+less {Same} {Higher} room high b =
+    subst (λ n. Limit Same Higher n high) (let e = b.room_is in omega arith) (subst (λ n. Limit Same Higher b.room_less n) (let e = b.high_is in omega arith) b.limit)
 
 pub no_room : {Same Higher : Type 0} (high : ℕ) → Behind Same Higher zero high → ⊥
 no_room high b = let e = b.room_is in omega arith
@@ -377,7 +402,8 @@ behind_past at declared n (k ∷ ks) e h = omega arith
 opened : (high : ℕ) (i : Input) → open_where (nat_lt 0 (suc high)) i ≡ read i.at (behind i)
 opened high i = ap (λ b. open_where b i) (lt-ltb 0 (suc high) (omega arith))
 
-open_inside : {B : Type 0} (q : ℕ → Parser B) (high : ℕ) → ((at : ℕ) (i : Input) → Inside (length i.rest) i.declared (q at i)) → (i : Input) (b : Bool) → Inside (length i.rest) i.declared (and_then (if b then open_where (nat_lt 0 high) i else Err (wrong i)) q)
+open_inside : {B : Type 0} (q : ℕ → Parser B) (high : ℕ) → ((at : ℕ) (i : Input) → Inside (length i.rest) i.declared (q at i)) →
+    (i : Input) (b : Bool) → Inside (length i.rest) i.declared (and_then (if b then open_where (nat_lt 0 high) i else Err (wrong i)) q)
 unfolding behind too_deep wrong left
 open_inside q high a i false = omega arith
 open_inside q zero a i true = omega arith
@@ -387,23 +413,29 @@ open_inside q (suc high) a i true =
     (inside_more (length (behind i).rest) (length i.rest) (behind i).declared i.declared (q i.at (behind i)) w.0 (let e = w.1 in omega arith) (a i.at (behind i)))
 
 -- where the second has room for an opener alone
-behind_opened : {B : Type 0} (q : ℕ → Parser B) (n : Next) (end : is n next.End ≡ false) (high : ℕ) → ((at : ℕ) (i : Input) → Inside (length i.rest) i.declared (q at i)) → (i : Input) → is n (next_token i) ≡ true → Past (length i.rest) 0 (and_then (open_where (nat_lt 0 (suc high)) i) q)
+behind_opened : {B : Type 0} (q : ℕ → Parser B) (n : Next) (end : is n next.End ≡ false) (high : ℕ) →
+    ((at : ℕ) (i : Input) → Inside (length i.rest) i.declared (q at i)) → (i : Input) → is n (next_token i) ≡ true →
+    Past (length i.rest) 0 (and_then (open_where (nat_lt 0 (suc high)) i) q)
 unfolding behind next_token
 behind_opened q n end high a i e =
     subst (λ o. Past (length i.rest) 0 (and_then o q)) (sym (opened high i))
     (past_inside (length (behind i).rest) (length i.rest) (behind i).declared 0 (q i.at (behind i)) (behind_past i.at i.declared n i.rest end e) (omega arith) (a i.at (behind i)))
 
 module _ (Same Higher More : Type 0) (count : Counting) {B : Type 0} (q q' : ℕ → Parser B) (n : Next) (end : is n next.End ≡ false) where
-  behind_raised : (room high : ℕ) → Limit Same Higher (suc room) (suc high) → ((at : ℕ) → Raises Same Higher More count (Behind Same Higher (suc room) (suc high)) (q at) (q' at)) → (i : Input) (other : ℕ) → Counted count i.declared other → Few Higher More count i.declared
+  behind_raised : (room high : ℕ) → Limit Same Higher (suc room) (suc high) → ((at : ℕ) → Raises Same Higher More count
+      (Behind Same Higher (suc room) (suc high)) (q at) (q' at)) → (i : Input) (other : ℕ) → Counted count i.declared other → Few Higher More count i.declared
       → Raised Same Higher More count (q i.at (behind i)) (q' i.at (behind (record i { declared = other })))
   unfolding behind
   behind_raised room high l a i other s few =
       let w = (behind_plain i.at i.declared i.rest).1 in
       subst (λ m. Raised Same Higher More count (q i.at (behind i)) (q' i.at m)) (sym (behind_other i.at i.declared other i.rest))
-      ((a i.at).raised (record { room_less = room; high_less = high; room_is = refl; high_is = refl; limit = limit_less room high l }) (behind i) other refl (omega (arith, s, w)) (few_is count i.declared (behind i).declared w few))
+      ((a i.at).raised (record { room_less = room; high_less = high; room_is = refl; high_is = refl; limit = limit_less room high l })
+      (behind i) other refl (omega (arith, s, w)) (few_is count i.declared (behind i).declared w few))
 
-  open_raised : (room high : ℕ) → Limit Same Higher room high → ((at : ℕ) → Raises Same Higher More count (Behind Same Higher room high) (q at) (q' at)) → (i : Input) (other : ℕ) → Counted count i.declared other → Few Higher More count i.declared → (b : Bool) → is n (next_token i) ≡ b
-      → Raised Same Higher More count (and_then (if b then open_where (nat_lt 0 room) i else Err (wrong i)) q) (and_then (if b then open_where (nat_lt 0 high) (record i { declared = other }) else Err (wrong (record i { declared = other }))) q')
+  open_raised : (room high : ℕ) → Limit Same Higher room high → ((at : ℕ) → Raises Same Higher More count (Behind Same Higher room high) (q at)
+      (q' at)) → (i : Input) (other : ℕ) → Counted count i.declared other → Few Higher More count i.declared → (b : Bool) → is n (next_token i) ≡ b
+      → Raised Same Higher More count (and_then (if b then open_where (nat_lt 0 room) i else Err (wrong i)) q)
+      (and_then (if b then open_where (nat_lt 0 high) (record i { declared = other }) else Err (wrong (record i { declared = other }))) q')
   unfolding too_deep wrong left next_token
   open_raised room high l a i other s few false e = refl
   open_raised zero zero l a i other s few true e = (λ s. refl, λ h. absurd (let n = l.higher h in let z : ⊥ = omega arith in z))
@@ -414,9 +446,11 @@ module _ (Same Higher More : Type 0) (count : Counting) {B : Type 0} (q q' : ℕ
   open_raised (suc room) zero l a i other s few true e = absurd (let n = l.no_lower in let z : ⊥ = omega arith in z)
   open_raised (suc room) (suc high) l a i other s few true e =
       subst (λ o. Raised Same Higher More count (and_then o q) (and_then (open_where (nat_lt 0 (suc high)) (record i { declared = other })) q')) (sym (opened room i))
-      (subst (λ o. Raised Same Higher More count (q i.at (behind i)) (and_then o q')) (sym (opened high (record i { declared = other }))) (behind_raised room high l a i other s few))
+      (subst (λ o. Raised Same Higher More count (q i.at (behind i)) (and_then o q')) (sym (opened high (record i { declared = other })))
+      (behind_raised room high l a i other s few))
 
-  opening_raises : (f : Nexts) (room high : ℕ) → ((at : ℕ) → Raises Same Higher More count (Behind Same Higher room high) (q at) (q' at)) → RaisesBefore Same Higher More count (Limit Same Higher room high) f (opening room n >>= q) (opening high n >>= q')
+  opening_raises : (f : Nexts) (room high : ℕ) → ((at : ℕ) → Raises Same Higher More count (Behind Same Higher room high) (q at) (q' at)) →
+      RaisesBefore Same Higher More count (Limit Same Higher room high) f (opening room n >>= q) (opening high n >>= q')
   unfolding opening next_token
   opening_raises f room high a = record {
     inside = λ i. open_inside q' high (λ at. (a at).inside) i (is n (next_token i));
@@ -424,8 +458,11 @@ module _ (Same Higher More : Type 0) (count : Counting) {B : Type 0} (q q' : ℕ
   }
 
 -- an opener and what stands behind it
-pub raised_opened : {Same Higher More : Type 0} {count : Counting} {B : Type 0} {q q' : ℕ → Parser B} {f : Nexts} (n : Next) → is n next.End ≡ false → (room high : ℕ) → ((at : ℕ) → Raises Same Higher More count (Behind Same Higher room high) (q at) (q' at)) → RaisesBefore Same Higher More count (Limit Same Higher room high) f (opening room n >>= q) (opening high n >>= q')
-raised_opened {Same = Same} {Higher = Higher} {More = More} {count = count} {q = q} {q' = q'} {f = f} n end room high a = opening_raises Same Higher More count q q' n end f room high a
+pub raised_opened : {Same Higher More : Type 0} {count : Counting} {B : Type 0} {q q' : ℕ → Parser B} {f : Nexts} (n : Next) → is n next.End ≡ false →
+    (room high : ℕ) → ((at : ℕ) → Raises Same Higher More count (Behind Same Higher room high) (q at) (q' at)) →
+    RaisesBefore Same Higher More count (Limit Same Higher room high) f (opening room n >>= q) (opening high n >>= q')
+raised_opened {Same = Same} {Higher = Higher} {More = More} {count = count} {q = q} {q' = q'} {f = f} n end room high a =
+    opening_raises Same Higher More count q q' n end f room high a
 
 -- ---- ordinals of their own
 
@@ -437,21 +474,26 @@ back_past : {A : Type 0} (at n declared : ℕ) (o : Outcome A) → Past n declar
 back_past at n declared (Ok x) h = h
 back_past at n declared (Err e) h = h
 
-back_raised : (Same Higher More : Type 0) (count : Counting) {A : Type 0} (at : ℕ) (o o' : Outcome A) → Raised Same Higher More count o o' → Raised Same Higher More count (back_at at o) (back_at at o')
+back_raised : (Same Higher More : Type 0) (count : Counting) {A : Type 0} (at : ℕ) (o o' : Outcome A) → Raised Same Higher More count o o' →
+    Raised Same Higher More count (back_at at o) (back_at at o')
 back_raised Same Higher More count at (Ok x) o' h = (h.0, h.1, h.2, ap (back_at at) h.3)
 back_raised Same Higher More count at (Err Memory) o' h = absurd h
 back_raised Same Higher More count at (Err (Wrong n)) o' h = ap (back_at at) h
 back_raised Same Higher More count at (Err (TooDeep n)) o' h = (λ s. ap (back_at at) (h.0 s), λ t. back_past at n 0 o' (h.1 t))
 back_raised Same Higher More count at (Err (TooMany n)) o' h = λ m. let w = h m in (w.0, w.1, back_past at n w.0 o' w.2)
 
-own_raises : (Same Higher More : Type 0) (count : Counting) {A : Type 0} (G : Type 0) (p p' : Parser A) → Raises Same Higher More count G p p' → Raises Same Higher More count G (with_own_ordinals p) (with_own_ordinals p')
+own_raises : (Same Higher More : Type 0) (count : Counting) {A : Type 0} (G : Type 0) (p p' : Parser A) → Raises Same Higher More count G p p' →
+    Raises Same Higher More count G (with_own_ordinals p) (with_own_ordinals p')
 unfolding with_own_ordinals next_token
 own_raises Same Higher More count G p p' a = record {
   inside = λ i. back_inside i.at (length i.rest) i.declared (p' (record i { at = 0 })) (a.inside (record i { at = 0 }));
-  raised = λ g i other e s l. back_raised Same Higher More count i.at (p (record i { at = 0 })) (p' (record i { at = 0; declared = other })) (a.raised g (record i { at = 0 }) other refl s l);
+  raised =
+      λ g i other e s l. back_raised Same Higher More count i.at (p (record i { at = 0 })) (p' (record i { at = 0; declared = other }))
+      (a.raised g (record i { at = 0 }) other refl s l);
 }
 
-pub raised_own : {Same Higher More : Type 0} {count : Counting} {A : Type 0} {G : Type 0} {p p' : Parser A} → Raises Same Higher More count G p p' → Raises Same Higher More count G (with_own_ordinals p) (with_own_ordinals p')
+pub raised_own : {Same Higher More : Type 0} {count : Counting} {A : Type 0} {G : Type 0} {p p' : Parser A} → Raises Same Higher More count G p p' →
+    Raises Same Higher More count G (with_own_ordinals p) (with_own_ordinals p')
 raised_own {Same = Same} {Higher = Higher} {More = More} {count = count} {G = G} {p = p} {p' = p'} a = own_raises Same Higher More count G p p' a
 
 -- ---- declarations
@@ -461,28 +503,34 @@ pub record Begun (Same Higher More : Type 0) (count : Counting) {A : Type 0} (G 
   pub raises : Raises Same Higher More count G p q
   pub takes : (i : Input) → first (next_token i) ≡ true → Past (length i.rest) i.declared (q i)
 
-begins_by : {B : Type 0} (q : ℕ → Parser B) (n : Next) → is n next.End ≡ false → ((at : ℕ) (i : Input) → Inside (length i.rest) i.declared (q at i)) → (i : Input) (b : Bool) → is n (next_token i) ≡ b → b ≡ true → Past (length i.rest) i.declared (and_then (if b then read i.at (behind i) else Err (wrong i)) q)
+begins_by : {B : Type 0} (q : ℕ → Parser B) (n : Next) → is n next.End ≡ false → ((at : ℕ) (i : Input) → Inside (length i.rest) i.declared (q at i)) →
+    (i : Input) (b : Bool) → is n (next_token i) ≡ b → b ≡ true → Past (length i.rest) i.declared (and_then (if b then read i.at (behind i) else Err (wrong i)) q)
 unfolding next_token behind
 begins_by q n end a i true e h =
-    past_inside (length (behind i).rest) (length i.rest) (behind i).declared i.declared (q i.at (behind i)) (behind_past i.at i.declared n i.rest end e) (let w = (behind_plain i.at i.declared i.rest).1 in omega arith) (a i.at (behind i))
+    past_inside (length (behind i).rest) (length i.rest) (behind i).declared i.declared (q i.at (behind i))
+    (behind_past i.at i.declared n i.rest end e) (let w = (behind_plain i.at i.declared i.rest).1 in omega arith) (a i.at (behind i))
 begins_by q n end a i false e h = absurd (let m : ⊥ = cc in m)
 
-begins : {B : Type 0} (q : ℕ → Parser B) (n : Next) → is n next.End ≡ false → ((at : ℕ) (i : Input) → Inside (length i.rest) i.declared (q at i)) → (i : Input) → is n (next_token i) ≡ true → Past (length i.rest) i.declared ((expect n >>= q) i)
+begins : {B : Type 0} (q : ℕ → Parser B) (n : Next) → is n next.End ≡ false → ((at : ℕ) (i : Input) → Inside (length i.rest) i.declared (q at i)) →
+    (i : Input) → is n (next_token i) ≡ true → Past (length i.rest) i.declared ((expect n >>= q) i)
 unfolding expect
 begins q n end a i e = begins_by q n end a i (is n (next_token i)) refl e
 
 module _ {Same Higher More : Type 0} {count : Counting} {G : Type 0} where
-  pub begun_expect : {B : Type 0} {q q' : ℕ → Parser B} (n : Next) → is n next.End ≡ false → ((at : ℕ) → Raises Same Higher More count G (q at) (q' at)) → Begun Same Higher More count G (is n) (expect n >>= q) (expect n >>= q')
+  pub begun_expect : {B : Type 0} {q q' : ℕ → Parser B} (n : Next) → is n next.End ≡ false →
+      ((at : ℕ) → Raises Same Higher More count G (q at) (q' at)) → Begun Same Higher More count G (is n) (expect n >>= q) (expect n >>= q')
   begun_expect {q' = q'} n end a = record {
     raises = raised_then (raised_expect n) a;
     takes = λ i e. begins q' n end (λ at. (a at).inside) i e;
   }
 
-  pub begun_then : {A B : Type 0} {f : Nexts} {p p' : Parser A} {q q' : A → Parser B} → Begun Same Higher More count G f p p' → ((x : A) → Raises Same Higher More count G (q x) (q' x)) → Begun Same Higher More count G f (p >>= q) (p' >>= q')
+  pub begun_then : {A B : Type 0} {f : Nexts} {p p' : Parser A} {q q' : A → Parser B} → Begun Same Higher More count G f p p' →
+      ((x : A) → Raises Same Higher More count G (q x) (q' x)) → Begun Same Higher More count G f (p >>= q) (p' >>= q')
   begun_then {p' = p'} a b = record {
     raises = raised_then a.raises b;
     takes = λ i e. past_then b (length i.rest) i.declared (p' i) (a.takes i e);
   }
 
-pub begun_granted : {Same Higher More : Type 0} {count : Counting} {G H : Type 0} {A : Type 0} {f : Nexts} {p p' : Parser A} → (H → G) → Begun Same Higher More count G f p p' → Begun Same Higher More count H f p p'
+pub begun_granted : {Same Higher More : Type 0} {count : Counting} {G H : Type 0} {A : Type 0} {f : Nexts} {p p' : Parser A} → (H → G) →
+    Begun Same Higher More count G f p p' → Begun Same Higher More count H f p p'
 begun_granted w a = record { raises = raised_granted w a.raises; takes = a.takes }

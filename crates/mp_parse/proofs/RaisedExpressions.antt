@@ -12,7 +12,9 @@ use Rattle.mp_cursor.specs.Nexts.{is}
 use Rattle.mp_cursor.specs.Parsers.{Parser}
 use Rattle.mp_parse_expr.specs.Operators.{relational, written, relational_operator, adding_operator, multiplying_operator}
 use Rattle.mp_parse_expr.specs.Expressions as p
-use Rattle.mp_parse.proofs.Raised.{Counting, Raises, Limit, Behind, raised_pure, raised_refuse, raised_expect, raised_identifier, raised_number, raised_string, raised_then, raised_map, raised_branch, raised_optional, raised_repeated, raised_optional_sign, raised_granted, raised_never, raised_refused, raised_opened, less, no_room, not_higher}
+use Rattle.mp_parse.proofs.Raised.{Counting, Raises, Limit, Behind, raised_pure, raised_refuse, raised_expect, raised_identifier, raised_number}
+use Rattle.mp_parse.proofs.Raised.{raised_string, raised_then, raised_map, raised_branch, raised_optional, raised_repeated, raised_optional_sign}
+use Rattle.mp_parse.proofs.Raised.{raised_granted, raised_never, raised_refused, raised_opened, less, no_room, not_higher}
 
 module _ {Same Higher More : Type 0} {count : Counting} {G : Type 0} where
   -- ---- operators
@@ -41,7 +43,8 @@ module _ {Same Higher More : Type 0} {count : Counting} {G : Type 0} where
       raised_branch (is (Symbol s.Star)) (raised_written _ _)
       (raised_branch (is (Word w.Div)) (raised_written _ _) (raised_branch (is (Word w.Mod)) (raised_written _ _) (raised_written _ _)))
 
-  raised_operation : {o : Parser (ℕ × Operator)} {x y : Parser Expr} → Raises Same Higher More count G o o → Raises Same Higher More count G x y → Raises Same Higher More count G (p.operation o x) (p.operation o y)
+  raised_operation : {o : Parser (ℕ × Operator)} {x y : Parser Expr} → Raises Same Higher More count G o o → Raises Same Higher More count G x y →
+      Raises Same Higher More count G (p.operation o x) (p.operation o y)
   raised_operation o a = raised_then o (λ at. raised_then a (λ x. raised_pure))
 
 -- what stands behind one more opener
@@ -63,9 +66,11 @@ module _ {Same Higher More : Type 0} {count : Counting} (room high : ℕ) (b c :
   unfolding p.further_selection p.field_selection p.pointer_selection
   raised_selections =
       raised_repeated _ _ (λ found. raised_map _ (raised_branch (is (Symbol s.LeftBracket)) raised_index_list
-      (raised_branch (is (Symbol s.Dot)) (raised_then (raised_expect _) (λ at. raised_then raised_identifier (λ name. raised_pure))) (raised_then (raised_expect _) (λ at. raised_pure)))))
+      (raised_branch (is (Symbol s.Dot)) (raised_then (raised_expect _) (λ at. raised_then raised_identifier (λ name. raised_pure)))
+      (raised_then (raised_expect _) (λ at. raised_pure)))))
 
-  raised_access_behind_with : (name : Identifier) → Raises Same Higher More count (Limit Same Higher room high) (p.access_behind_with room b name) (p.access_behind_with high c name)
+  raised_access_behind_with : (name : Identifier) → Raises Same Higher More count (Limit Same Higher room high) (p.access_behind_with room b name)
+      (p.access_behind_with high c name)
   unfolding p.access_behind_with
   raised_access_behind_with name = raised_then raised_selections (λ selectors. raised_pure)
 
@@ -73,7 +78,9 @@ module _ {Same Higher More : Type 0} {count : Counting} (room high : ℕ) (b c :
 
   raised_actual : Raises Same Higher More count (Behind Same Higher room high) (p.actual room b) (p.actual high c)
   unfolding p.actual p.optional_width p.width
-  raised_actual = raised_then d.expression (λ value. raised_then (raised_optional (is (Symbol s.Colon)) (raised_then (raised_expect _) (λ at. raised_then d.expression (λ value. raised_pure)))) (λ width. raised_pure))
+  raised_actual =
+      raised_then d.expression (λ value. raised_then (raised_optional (is (Symbol s.Colon))
+      (raised_then (raised_expect _) (λ at. raised_then d.expression (λ value. raised_pure)))) (λ width. raised_pure))
 
   raised_actuals_with : Raises Same Higher More count (Limit Same Higher room high) (p.actuals_with room b) (p.actuals_with high c)
   unfolding p.actuals_with p.further_actual
@@ -85,13 +92,15 @@ module _ {Same Higher More : Type 0} {count : Counting} (room high : ℕ) (b c :
 
   raised_member : Raises Same Higher More count (Behind Same Higher room high) (p.member room b) (p.member high c)
   unfolding p.member p.last_member
-  raised_member = raised_then d.expression (λ first. raised_then (raised_optional (is (Symbol s.DotDot)) (raised_then (raised_expect _) (λ at. d.expression))) (λ last. raised_pure))
+  raised_member =
+      raised_then d.expression (λ first. raised_then (raised_optional (is (Symbol s.DotDot)) (raised_then (raised_expect _) (λ at. d.expression))) (λ last. raised_pure))
 
   raised_set : Raises Same Higher More count (Limit Same Higher room high) (p.set_constructor room b) (p.set_constructor high c)
   unfolding p.set_constructor p.some_members p.further_member
   raised_set =
       raised_opened (Symbol s.LeftBracket) refl room high (λ at.
-      raised_then (raised_branch (is (Symbol s.RightBracket)) raised_pure (raised_then raised_member (λ first. raised_repeated _ _ (λ found. raised_map _ (raised_then (raised_expect _) (λ at. raised_member)))))) (λ found.
+      raised_then (raised_branch (is (Symbol s.RightBracket)) raised_pure (raised_then raised_member
+      (λ first. raised_repeated _ _ (λ found. raised_map _ (raised_then (raised_expect _) (λ at. raised_member)))))) (λ found.
       raised_then (raised_expect _) (λ z. raised_pure)))
 
   raised_parenthesized : Raises Same Higher More count (Limit Same Higher room high) (p.parenthesized room b) (p.parenthesized high c)
@@ -119,12 +128,15 @@ module _ {Same Higher More : Type 0} {count : Counting} (room high : ℕ) (b c :
 
   raised_term : Raises Same Higher More count (Limit Same Higher room high) (p.term room b) (p.term high c)
   unfolding p.term p.further_factor
-  raised_term = raised_then raised_factor_with (λ first. raised_then (raised_repeated _ _ (λ found. raised_map _ (raised_operation raised_multiplying raised_factor_with))) (λ more. raised_pure))
+  raised_term =
+      raised_then raised_factor_with (λ first. raised_then (raised_repeated _ _ (λ found. raised_map _
+      (raised_operation raised_multiplying raised_factor_with))) (λ more. raised_pure))
 
   raised_simple : Raises Same Higher More count (Limit Same Higher room high) (p.simple_expression room b) (p.simple_expression high c)
   unfolding p.simple_expression p.further_term
   raised_simple =
-      raised_then raised_optional_sign (λ sign. raised_then raised_term (λ first. raised_then (raised_repeated _ _ (λ found. raised_map _ (raised_operation raised_adding raised_term))) (λ more. raised_pure)))
+      raised_then raised_optional_sign (λ sign. raised_then raised_term (λ first. raised_then
+      (raised_repeated _ _ (λ found. raised_map _ (raised_operation raised_adding raised_term))) (λ more. raised_pure)))
 
   raised_expression_with : Raises Same Higher More count (Limit Same Higher room high) (p.expression_with room b) (p.expression_with high c)
   unfolding p.expression_with p.related

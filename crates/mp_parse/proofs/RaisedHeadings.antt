@@ -8,7 +8,9 @@ use Rattle.mp_cursor.specs.declared.next.Next.TheVariants.{Word, Symbol}
 use Rattle.mp_cursor.specs.Nexts.{is, among}
 use Rattle.mp_cursor.specs.Parsers.{Parser, Outcome, next_token}
 use Rattle.mp_parse_type.specs.Headings as p
-use Rattle.mp_parse.proofs.Raised.{Counting, Raises, Past, Begun, Limit, Behind, raised_pure, raised_refuse, raised_expect, raised_identifier, raised_then, raised_map, raised_branch, raised_optional, raised_repeated, raised_identifiers, raised_granted, raised_never, raised_refused, raised_opened, begun_expect, less, no_room, not_higher}
+use Rattle.mp_parse.proofs.Raised.{Counting, Raises, Past, Begun, Limit, Behind, raised_pure, raised_refuse, raised_expect, raised_identifier}
+use Rattle.mp_parse.proofs.Raised.{raised_then, raised_map, raised_branch, raised_optional, raised_repeated, raised_identifiers, raised_granted}
+use Rattle.mp_parse.proofs.Raised.{raised_never, raised_refused, raised_opened, begun_expect, less, no_room, not_higher}
 
 module _ {Same Higher More : Type 0} {count : Counting} {G : Type 0} where
   raised_result : Raises Same Higher More count G p.result_type p.result_type
@@ -22,23 +24,28 @@ module _ {Same Higher More : Type 0} {count : Counting} {G : Type 0} where
   unfolding p.formal p.variable_parameters p.procedure_parameter p.function_parameter p.value_parameters
   raised_formal a =
       raised_branch (is (Word w.Var)) (raised_then (raised_expect _) (λ at. raised_then raised_identifiers (λ names. raised_map _ raised_result)))
-      (raised_branch (is (Word w.Procedure)) (raised_then (raised_expect _) (λ at. raised_then raised_identifier (λ name. raised_then (raised_own_formals a) (λ own. raised_pure))))
-      (raised_branch (is (Word w.Function)) (raised_then (raised_expect _) (λ at. raised_then raised_identifier (λ name. raised_then (raised_own_formals a) (λ own. raised_map _ raised_result))))
+      (raised_branch (is (Word w.Procedure)) (raised_then (raised_expect _) (λ at. raised_then raised_identifier
+      (λ name. raised_then (raised_own_formals a) (λ own. raised_pure))))
+      (raised_branch (is (Word w.Function)) (raised_then (raised_expect _) (λ at. raised_then raised_identifier
+      (λ name. raised_then (raised_own_formals a) (λ own. raised_map _ raised_result))))
       (raised_then raised_identifiers (λ names. raised_map _ raised_result))))
 
   raised_sections : {f g : Parser (List FormalSection)} → Raises Same Higher More count G f g → Raises Same Higher More count G (p.formal_sections f) (p.formal_sections g)
   unfolding p.formal_sections p.further_formal
   raised_sections a = raised_then (raised_formal a) (λ first. raised_repeated _ _ (λ found. raised_map _ (raised_then (raised_expect _) (λ at. raised_formal a))))
 
-takes_either : {A : Type 0} (n declared : ℕ) (a b : Bool) (o u : Outcome A) → (a ≡ true → Past n declared o) → (b ≡ true → Past n declared u) → (a || (b || false)) ≡ true → Past n declared (if a then o else u)
+takes_either : {A : Type 0} (n declared : ℕ) (a b : Bool) (o u : Outcome A) → (a ≡ true → Past n declared o) → (b ≡ true → Past n declared u) →
+    (a || (b || false)) ≡ true → Past n declared (if a then o else u)
 takes_either n declared true b o u f g h = f refl
 takes_either n declared false true o u f g h = g refl
 takes_either n declared false false o u f g h = absurd (let z : ⊥ = cc in z)
 
 module _ {Same Higher More : Type 0} {count : Counting} where
-  raised_formals_with : (room high : ℕ) {f g : Parser (List FormalSection)} → Raises Same Higher More count (Behind Same Higher room high) f g → Raises Same Higher More count (Limit Same Higher room high) (p.formals_with room f) (p.formals_with high g)
+  raised_formals_with : (room high : ℕ) {f g : Parser (List FormalSection)} → Raises Same Higher More count (Behind Same Higher room high) f g →
+      Raises Same Higher More count (Limit Same Higher room high) (p.formals_with room f) (p.formals_with high g)
   unfolding p.formals_with
-  raised_formals_with room high a = raised_opened (Symbol s.LeftParen) refl room high (λ at. raised_then (raised_sections a) (λ found. raised_then (raised_expect _) (λ z. raised_pure)))
+  raised_formals_with room high a =
+      raised_opened (Symbol s.LeftParen) refl room high (λ at. raised_then (raised_sections a) (λ found. raised_then (raised_expect _) (λ z. raised_pure)))
 
   behind_raises : (high room : ℕ) → Raises Same Higher More count (Behind Same Higher room high) (p.formals_behind room) (p.formals_behind high)
   unfolding p.formals_behind
@@ -52,7 +59,8 @@ module _ {Same Higher More : Type 0} {count : Counting} where
 
   begun_procedure : (room high : ℕ) → Begun Same Higher More count (Limit Same Higher room high) (is (Word w.Procedure)) (p.procedure_heading room) (p.procedure_heading high)
   unfolding p.procedure_heading
-  begun_procedure room high = begun_expect (Word w.Procedure) refl (λ at. raised_then raised_identifier (λ name. raised_then (raised_own_formals (raised_formals room high)) (λ sections. raised_pure)))
+  begun_procedure room high =
+      begun_expect (Word w.Procedure) refl (λ at. raised_then raised_identifier (λ name. raised_then (raised_own_formals (raised_formals room high)) (λ sections. raised_pure)))
 
   begun_function : (room high : ℕ) → Begun Same Higher More count (Limit Same Higher room high) (is (Word w.Function)) (p.function_heading room) (p.function_heading high)
   unfolding p.function_heading p.optional_result
@@ -61,7 +69,8 @@ module _ {Same Higher More : Type 0} {count : Counting} where
       raised_then (raised_optional (is (Symbol s.Colon)) raised_result) (λ result. raised_pure))))
 
   -- a heading is begun by its word
-  pub begun_heading : (room high : ℕ) → Begun Same Higher More count (Limit Same Higher room high) (among (Word w.Procedure ∷ Word w.Function ∷ [])) (p.heading room) (p.heading high)
+  pub begun_heading : (room high : ℕ) → Begun Same Higher More count (Limit Same Higher room high) (among (Word w.Procedure ∷ Word w.Function ∷ []))
+      (p.heading room) (p.heading high)
   unfolding p.heading
   begun_heading room high =
       let a = begun_procedure room high in
@@ -69,5 +78,6 @@ module _ {Same Higher More : Type 0} {count : Counting} where
       record {
         raises = raised_branch (is (Word w.Procedure)) a.raises b.raises;
         takes = λ i e.
-            takes_either (length i.rest) i.declared (is (Word w.Procedure) (next_token i)) (is (Word w.Function) (next_token i)) (p.procedure_heading high i) (p.function_heading high i) (a.takes i) (b.takes i) e;
+            takes_either (length i.rest) i.declared (is (Word w.Procedure) (next_token i)) (is (Word w.Function) (next_token i))
+            (p.procedure_heading high i) (p.function_heading high i) (a.takes i) (b.takes i) e;
       }

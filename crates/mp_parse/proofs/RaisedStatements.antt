@@ -10,7 +10,9 @@ use Rattle.mp_cursor.specs.declared.next.Next.TheVariants.{Word, Symbol}
 use Rattle.mp_cursor.specs.Nexts.{is}
 use Rattle.mp_cursor.specs.Parsers.{Parser}
 use Rattle.mp_parse_stmt.specs.Statements as p
-use Rattle.mp_parse.proofs.Raised.{Counting, Raises, Limit, Behind, raised_pure, raised_refuse, raised_here, raised_expect, raised_identifier, raised_number, raised_then, raised_map, raised_branch, raised_optional, raised_repeated, raised_series, raised_constants, raised_granted, raised_never, raised_refused, raised_opened, less, no_room, not_higher}
+use Rattle.mp_parse.proofs.Raised.{Counting, Raises, Limit, Behind, raised_pure, raised_refuse, raised_here, raised_expect, raised_identifier}
+use Rattle.mp_parse.proofs.Raised.{raised_number, raised_then, raised_map, raised_branch, raised_optional, raised_repeated, raised_series}
+use Rattle.mp_parse.proofs.Raised.{raised_constants, raised_granted, raised_never, raised_refused, raised_opened, less, no_room, not_higher}
 use Rattle.mp_parse.proofs.RaisedExpressions.{raised_expression, raised_access, raised_access_behind, raised_actuals}
 
 module _ {Same Higher More : Type 0} {count : Counting} where
@@ -21,7 +23,8 @@ module _ {Same Higher More : Type 0} {count : Counting} where
     unfolding p.named p.assignment_behind
     raised_named =
         raised_then raised_identifier (λ name.
-        raised_branch p.assigning (raised_then (raised_access_behind room high name) (λ variable. raised_then (raised_expect _) (λ at. raised_then (raised_expression room high) (λ value. raised_pure))))
+        raised_branch p.assigning (raised_then (raised_access_behind room high name) (λ variable.
+        raised_then (raised_expect _) (λ at. raised_then (raised_expression room high) (λ value. raised_pure))))
         (raised_map _ (raised_branch (is (Symbol s.LeftParen)) (raised_actuals room high) raised_pure)))
 
   module _ {G : Type 0} where
@@ -38,7 +41,8 @@ module _ {Same Higher More : Type 0} {count : Counting} where
     raised_for_head : {e f : Parser Expr} → Raises Same Higher More count G e f → Raises Same Higher More count G (p.for_head e) (p.for_head f)
     unfolding p.for_head
     raised_for_head a =
-        raised_then raised_identifier (λ variable. raised_then (raised_expect _) (λ assign. raised_then a (λ first. raised_then raised_direction (λ way. raised_then a (λ last. raised_pure)))))
+        raised_then raised_identifier (λ variable. raised_then (raised_expect _) (λ assign.
+        raised_then a (λ first. raised_then raised_direction (λ way. raised_then a (λ last. raised_pure)))))
 
     raised_records : {a b : Parser (Access Expr)} → Raises Same Higher More count G a b → Raises Same Higher More count G (p.records a) (p.records b)
     unfolding p.records p.further_record
@@ -89,20 +93,27 @@ module _ {Same Higher More : Type 0} {count : Counting} (room high : ℕ) (b c :
 
   raised_while : Raises Same Higher More count (Limit Same Higher room high) (p.while_statement room b) (p.while_statement high c)
   unfolding p.while_statement
-  raised_while = raised_opened (Word w.While) refl room high (λ at. raised_then d.expression (λ condition. raised_then (raised_expect _) (λ z. raised_then d.statement (λ body. raised_pure))))
+  raised_while =
+      raised_opened (Word w.While) refl room high (λ at. raised_then d.expression (λ condition.
+      raised_then (raised_expect _) (λ z. raised_then d.statement (λ body. raised_pure))))
 
   raised_repeat : Raises Same Higher More count (Limit Same Higher room high) (p.repeat_statement room b) (p.repeat_statement high c)
   unfolding p.repeat_statement
   raised_repeat =
-      raised_opened (Word w.Repeat) refl room high (λ at. raised_then (raised_sequence d.statement) (λ statements. raised_then (raised_expect _) (λ z. raised_then d.expression (λ condition. raised_pure))))
+      raised_opened (Word w.Repeat) refl room high (λ at. raised_then (raised_sequence d.statement)
+      (λ statements. raised_then (raised_expect _) (λ z. raised_then d.expression (λ condition. raised_pure))))
 
   raised_for : Raises Same Higher More count (Limit Same Higher room high) (p.for_statement room b) (p.for_statement high c)
   unfolding p.for_statement
-  raised_for = raised_opened (Word w.For) refl room high (λ at. raised_then (raised_for_head d.expression) (λ head. raised_then (raised_expect _) (λ z. raised_then d.statement (λ body. raised_pure))))
+  raised_for =
+      raised_opened (Word w.For) refl room high (λ at. raised_then (raised_for_head d.expression)
+      (λ head. raised_then (raised_expect _) (λ z. raised_then d.statement (λ body. raised_pure))))
 
   raised_with : Raises Same Higher More count (Limit Same Higher room high) (p.with_statement room b) (p.with_statement high c)
   unfolding p.with_statement
-  raised_with = raised_opened (Word w.With) refl room high (λ at. raised_then (raised_records d.access) (λ found. raised_then (raised_expect _) (λ z. raised_then d.statement (λ body. raised_pure))))
+  raised_with =
+      raised_opened (Word w.With) refl room high (λ at. raised_then (raised_records d.access)
+      (λ found. raised_then (raised_expect _) (λ z. raised_then d.statement (λ body. raised_pure))))
 
   -- ---- statements
 
@@ -121,7 +132,8 @@ module _ {Same Higher More : Type 0} {count : Counting} (room high : ℕ) (b c :
 
   raised_statement_with : Raises Same Higher More count (Limit Same Higher room high) (p.statement_with room b) (p.statement_with high c)
   unfolding p.statement_with p.labelled
-  raised_statement_with = raised_branch (is next.Number) (raised_then raised_number (λ label. raised_then (raised_expect _) (λ z. raised_map _ raised_unlabelled))) raised_unlabelled
+  raised_statement_with =
+      raised_branch (is next.Number) (raised_then raised_number (λ label. raised_then (raised_expect _) (λ z. raised_map _ raised_unlabelled))) raised_unlabelled
 
 -- ---- what stands behind one more opener, of any limits
 

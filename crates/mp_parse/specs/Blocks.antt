@@ -1,4 +1,4 @@
--- Parsers of blocks and programs.
+-- Parsers of blocks and programs. Statements outside cite `program` alone, by `first_error`.
 use Rattle.std.specs.Prelude.{ℕ, zero, suc, List, [], ◌∷◌, ◌++◌, Option, Some, None, codes}
 use Rattle.mp_ast.specs.declared.words.WordSymbol.TheVariants as w
 use Rattle.mp_ast.specs.declared.symbols.Symbol.TheVariants as s
@@ -20,7 +20,8 @@ use Rattle.mp_ast.specs.BlockGrammar.{Limits}
 use Rattle.mp_cursor.specs.declared.next.Next.TheVariants as next
 use Rattle.mp_cursor.specs.declared.next.Next.TheVariants.{Word, Symbol}
 use Rattle.mp_cursor.specs.Nexts.{Nexts, is, among}
-use Rattle.mp_cursor.specs.Parsers.{Parser, ◌>>=◌, ◌>>◌, ◌<$>◌, pure, refuse, branch, here, expect, opening, counted, deeper, identifier, number, directive, repeated, and_one, with_own_ordinals}
+use Rattle.mp_cursor.specs.Parsers.{Parser, ◌>>=◌, ◌>>◌, ◌<$>◌, pure, refuse, branch, here, expect, opening, counted, deeper, identifier, number}
+use Rattle.mp_cursor.specs.Parsers.{directive, repeated, and_one, with_own_ordinals}
 use Rattle.mp_cursor.specs.Leaves.{identifiers, constant}
 use Rattle.mp_parse_type.specs.Types.{denoter, section}
 use Rattle.mp_parse_type.specs.Headings.{heading}

@@ -1,9 +1,9 @@
 -- The errors of lists of tokens that are no program.
-use Rattle.std.specs.Prelude.{◌≡◌, ℕ, zero, suc, ◌+◌, ◌-◌, ◌<◌, List, length, take, Option, Some, None, Ok, Err}
+use Rattle.std.specs.Prelude.{◌≡◌, ℕ, zero, suc, ◌-◌, List, length, Option, Some, None, Ok, Err}
 use Rattle.mp_ast.specs.declared.tokens.TokenKind.{TokenKind}
 use Rattle.mp_ast.specs.declared.blocks.Tree.{Tree}
 use Rattle.mp_ast.specs.Programs.{HasTree, standard, start_of}
-use Rattle.mp_ast.specs.FirstError.{HasTooManyDeclarations, IsTooDeep, IsFirstError}
+use Rattle.mp_ast.specs.FirstError.{HasCode, IsFirstError}
 use Rattle.mp_cursor.specs.declared.failure.Failure.{Failure}
 use Rattle.mp_cursor.specs.declared.failure.Failure.TheVariants as failure
 use Rattle.mp_cursor.specs.Parsers.{Outcome}
@@ -24,27 +24,10 @@ abbrev pub NamesFirstError : List TokenKind → ParseError → Type 0
 NamesFirstError kinds error.Memory = Unit {0}
 NamesFirstError kinds (error.Syntax token code) = IsFirstError standard kinds token code
 
--- ---- the causes of the codes, each without those of the codes above it
-
-abbrev pub EndsEarly : List TokenKind → ℕ → Type 0
-EndsEarly kinds index = index ≡ length kinds
-
-abbrev pub FollowsTheProgram : List TokenKind → ℕ → Type 0
-FollowsTheProgram kinds index = (index < length kinds) × HasTree standard (take index kinds)
-
-abbrev pub IsOneBlockTooMany : List TokenKind → ℕ → Type 0
-IsOneBlockTooMany kinds index = (index < length kinds) × (HasTree standard (take index kinds) → ⊥) × HasTooManyDeclarations standard (take (index + 1) kinds)
-
-abbrev pub IsNestedTooDeep : List TokenKind → ℕ → Type 0
-IsNestedTooDeep kinds index = (index < length kinds) × (HasTree standard (take index kinds) → ⊥) × (HasTooManyDeclarations standard (take (index + 1) kinds) → ⊥) × IsTooDeep standard (take (index + 1) kinds)
-
-abbrev pub IsWrong : List TokenKind → ℕ → Type 0
-IsWrong kinds index = (index < length kinds) × (HasTree standard (take index kinds) → ⊥) × (IsTooDeep standard (take (index + 1) kinds) → ⊥)
-
--- an error has this code exactly where its token has this cause
-abbrev pub HasCodeWhere : ℕ → (ℕ → Type 0) → ParseError → Type 0
-HasCodeWhere code Cause error.Memory = Unit {0}
-HasCodeWhere code Cause (error.Syntax token told) = (told ≡ code → Cause token) × (Cause token → told ≡ code)
+-- an error has this code exactly where its token has it
+abbrev pub HasCodeExactly : ℕ → List TokenKind → ParseError → Type 0
+HasCodeExactly code kinds error.Memory = Unit {0}
+HasCodeExactly code kinds (error.Syntax token given) = (given ≡ code → HasCode standard kinds token code) × (HasCode standard kinds token code → given ≡ code)
 
 -- ---- the first error, as the parser finds it
 

@@ -1,3 +1,4 @@
 pub mod Blocks
 pub mod Errors
 pub mod Locality
+pub mod StoppedParts

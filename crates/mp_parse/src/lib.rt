@@ -4,8 +4,9 @@
 //! answers a tree exactly where the tokens have one by the grammar of `mp_ast`, and that one; that its error names the
 //! first token with which no program begins, with the code of the cause; and of the definitions, that no list of tokens
 //! has two trees, or two first errors, or one of each; that each has one of them; and that a nested block is read by its
-//! own tokens alone. It must never look at names but for `forward`, nor judge what a program means. It stands on
-//! `mp_parse_stmt`, `mp_parse_type` and the crates below them.
+//! own tokens alone. A statement part can be read by itself, and tells its `begin` where it stops. It must never look at
+//! names but for `forward`, nor judge what a program means. It stands on `mp_parse_stmt`, `mp_parse_type` and the crates
+//! below them.
 #![tactic(auto)]
 
 mod blocks;
@@ -13,10 +14,13 @@ mod errors;
 mod laws;
 mod parser;
 mod parts;
+mod stopped;
 
 pub use errors::ParseError;
 pub use laws::{
     blocks_do_not_look_around, first_errors_are_found, one_first_error, one_tree,
-    programs_have_no_error,
+    programs_have_no_error, statement_parts_are_read_exactly,
+    statement_parts_stop_behind_their_begin,
 };
 pub use parser::parse;
+pub use stopped::{StoppedPart, read_statement_part};

@@ -1,8 +1,8 @@
-ghost use Rattle.std.specs.Prelude.{◌≡◌, ◌≢◌, ◌≤◌, length, IfErr, IfOk, MatchResult, None};
+ghost use Rattle.std.specs.Prelude.{◌≡◌, ◌≢◌, ◌≤◌, ℕ, length, IfErr, IfOk, MatchResult, None};
 ghost use Rattle.mp_ast.specs.declared.blocks.Tree.{Tree as SyntaxTree};
 ghost use Rattle.mp_ast.specs.Programs.{Derives, kinds_of, standard};
 ghost use Rattle.mp_parse.specs.Errors as spec;
-ghost use Rattle.mp_parse.specs.Errors.{EndsEarly, FollowsTheProgram, HasCodeWhere, IsNestedTooDeep, IsOneBlockTooMany, IsWrong, NamesFirstError, first_error, told};
+ghost use Rattle.mp_parse.specs.Errors.{HasCodeExactly, NamesFirstError, first_error, told};
 ghost use Rattle.mp_parse.specs.declared.errors.ParseError.TheVariants as error;
 
 use crate::blocks::program;
@@ -40,11 +40,7 @@ pub fn parse(alloc: Global, lexed: &Lexed) -> Result<Tree, ParseError>
     requires { length lexed.now.tokens ≤ TEXT_LIMIT }
     ensures tree { IfOk result (λ t. Derives standard (kinds_of lexed.now.tokens) t) }
     ensures error { IfErr result (λ e. NamesFirstError (kinds_of lexed.now.tokens) e) }
-    ensures ends_early { IfErr result (λ e. HasCodeWhere 202 (EndsEarly (kinds_of lexed.now.tokens)) e) }
-    ensures behind { IfErr result (λ e. HasCodeWhere 205 (FollowsTheProgram (kinds_of lexed.now.tokens)) e) }
-    ensures too_many { IfErr result (λ e. HasCodeWhere 204 (IsOneBlockTooMany (kinds_of lexed.now.tokens)) e) }
-    ensures too_deep { IfErr result (λ e. HasCodeWhere 203 (IsNestedTooDeep (kinds_of lexed.now.tokens)) e) }
-    ensures wrong { IfErr result (λ e. HasCodeWhere 201 (IsWrong (kinds_of lexed.now.tokens)) e) }
+    ensures code { IfErr result (λ e. (code : ℕ) → HasCodeExactly code (kinds_of lexed.now.tokens) e) }
     ensures found { MatchResult result (λ t. first_error (kinds_of lexed.now.tokens) ≡ None) (λ e. e ≢ error.Memory → first_error (kinds_of lexed.now.tokens) ≡ told e) }
     ensures only { (t : SyntaxTree) → Derives standard (kinds_of lexed.now.tokens) t → MatchResult result (λ found. found ≡ t) (λ e. e ≡ error.Memory) }
 {

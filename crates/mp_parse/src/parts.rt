@@ -1,3 +1,5 @@
+#![tactic(auto, using(mp_cursor::proofs::LoopLemmas::loop_more, mp_cursor::proofs::LoopLemmas::loop_done), unfolding(mp_cursor::specs::Parsers::repeated, crate::specs::Blocks::further_label, crate::specs::Blocks::further_constant, crate::specs::Blocks::further_type, crate::specs::Blocks::further_section))]
+
 ghost use Rattle.std.specs.Prelude.{◌≡◌, [], ◌∷◌};
 ghost use Rattle.mp_cursor.specs.Parsers.{Reads};
 ghost use Rattle.mp_parse.specs.Blocks as spec;
@@ -14,7 +16,6 @@ use std::alloc::Global;
 
 // ---- labels
 
-#[tactic(auto, using(mp_cursor::proofs::LoopLemmas::loop_more, mp_cursor::proofs::LoopLemmas::loop_done), unfolding(mp_cursor::specs::Parsers::repeated, crate::specs::Blocks::further_label))]
 fn further_labels(tokens: &mut Cursor<'_>, first: Items<Number>) -> Result<Items<Number>, Failure>
     ensures { Reads (spec.further_labels first tokens.old) result tokens.new }
 {
@@ -79,7 +80,6 @@ fn constant_definition(
     })
 }
 
-#[tactic(auto, using(mp_cursor::proofs::LoopLemmas::loop_more, mp_cursor::proofs::LoopLemmas::loop_done), unfolding(mp_cursor::specs::Parsers::repeated, crate::specs::Blocks::further_constant))]
 fn further_constants(
     alloc: Global,
     tokens: &mut Cursor<'_>,
@@ -131,7 +131,6 @@ fn type_definition(alloc: Global, tokens: &mut Cursor<'_>) -> Result<TypeDefinit
     })
 }
 
-#[tactic(auto, using(mp_cursor::proofs::LoopLemmas::loop_more, mp_cursor::proofs::LoopLemmas::loop_done), unfolding(mp_cursor::specs::Parsers::repeated, crate::specs::Blocks::further_type))]
 fn further_types(
     alloc: Global,
     tokens: &mut Cursor<'_>,
@@ -174,7 +173,6 @@ fn variable_section(alloc: Global, tokens: &mut Cursor<'_>) -> Result<Section<De
     Ok(found)
 }
 
-#[tactic(auto, using(mp_cursor::proofs::LoopLemmas::loop_more, mp_cursor::proofs::LoopLemmas::loop_done), unfolding(mp_cursor::specs::Parsers::repeated, crate::specs::Blocks::further_section))]
 fn further_sections(
     alloc: Global,
     tokens: &mut Cursor<'_>,

@@ -19,14 +19,16 @@ use Rattle.mp_cursor.specs.declared.next.Next.TheVariants.{Word, Symbol}
 use Rattle.mp_cursor.specs.Nexts.{Nexts, is, any, either, among, but}
 use Rattle.mp_cursor.specs.Parsers.{Parser, ◌>>=◌, ◌>>◌, ◌<$>◌, pure, expect}
 use Rattle.mp_cursor.proofs.NextSets.{apart, within_any, within_itself}
-use Rattle.mp_cursor.proofs.Laws.{Law, law_pure, law_then, law_map, law_followed, law_begun, law_as, law_word, law_symbol, symbol_only}
+use Rattle.mp_cursor.proofs.RuleLaws.{Law, law_pure, law_then, law_map, law_followed, law_begun, law_as, law_word, law_symbol, symbol_only}
 use Rattle.mp_cursor.proofs.SameRules.{same_refl, same_sym, same_trans, same_or, or_grouped, or_swapped, then_grouped, factored, map_first}
 use Rattle.mp_cursor.proofs.LeafLaws.{law_identifier, law_number, law_string, has_room, law_opened_word, law_opened_symbol}
 use Rattle.mp_cursor.proofs.ChoiceLaws.{law_branch, law_branch_first, law_optional}
-use Rattle.mp_cursor.proofs.ListLaws.{Falls, falls_word, falls_symbol, falls_opened, falls_then, falls_branch, law_many, law_many_from, law_many_lists, law_separated, law_further, falls_further}
+use Rattle.mp_cursor.proofs.ListLaws.{Falls, falls_word, falls_symbol, falls_opened, falls_then, falls_branch, law_many, law_many_from}
+use Rattle.mp_cursor.proofs.ListLaws.{law_many_lists, law_separated, law_further, falls_further}
 use Rattle.mp_cursor.proofs.ConstantLaws.{law_optional_sign}
 use Rattle.mp_parse_expr.specs.Operators.{written, relational, relational_operator, adding, adding_operator, multiplying, multiplying_operator}
 use Rattle.mp_parse_expr.specs.Expressions as p
+use Rattle.mp_parse_expr.specs.ExpressionFollows.{after_access, after_expression}
 
 -- ---- operators
 
@@ -97,10 +99,7 @@ factor_begins = among (next.Number ∷ next.Text ∷ Word w.Nil ∷ next.Identif
 abbrev pub expression_begins : Nexts
 expression_begins = among (next.Number ∷ next.Text ∷ Word w.Nil ∷ next.Identifier ∷ Symbol s.LeftParen ∷ Word w.Not ∷ Symbol s.LeftBracket ∷ Symbol s.Plus ∷ Symbol s.Minus ∷ [])
 
--- what goes on with a variable, a factor, a term, a simple expression and an expression
-abbrev pub after_access : Nexts
-after_access = but (Symbol s.LeftBracket ∷ Symbol s.Dot ∷ Symbol s.Caret ∷ [])
-
+-- what goes on with a factor, a term and a simple expression may not follow them
 abbrev pub after_factor : Nexts
 after_factor = but (Symbol s.LeftBracket ∷ Symbol s.Dot ∷ Symbol s.Caret ∷ Symbol s.LeftParen ∷ [])
 
@@ -108,12 +107,9 @@ abbrev pub after_term : Nexts
 after_term = but (Symbol s.LeftBracket ∷ Symbol s.Dot ∷ Symbol s.Caret ∷ Symbol s.LeftParen ∷ Symbol s.Star ∷ Word w.Div ∷ Word w.Mod ∷ Word w.And ∷ [])
 
 abbrev pub after_simple : Nexts
-after_simple = but (Symbol s.LeftBracket ∷ Symbol s.Dot ∷ Symbol s.Caret ∷ Symbol s.LeftParen ∷ Symbol s.Star ∷ Word w.Div ∷ Word w.Mod ∷ Word w.And ∷ Symbol s.Plus ∷ Symbol s.Minus ∷ Word w.Or ∷ [])
-
-abbrev pub after_expression : Nexts
-after_expression =
-    but (Symbol s.LeftBracket ∷ Symbol s.Dot ∷ Symbol s.Caret ∷ Symbol s.LeftParen ∷ Symbol s.Star ∷ Word w.Div ∷ Word w.Mod ∷ Word w.And ∷ Symbol s.Plus ∷ Symbol s.Minus ∷ Word w.Or
-    ∷ Symbol s.Equal ∷ Symbol s.NotEqual ∷ Symbol s.Less ∷ Symbol s.LessEqual ∷ Symbol s.Greater ∷ Symbol s.GreaterEqual ∷ Word w.In ∷ [])
+after_simple =
+    but (Symbol s.LeftBracket ∷ Symbol s.Dot ∷ Symbol s.Caret ∷ Symbol s.LeftParen ∷ Symbol s.Star ∷ Word w.Div ∷ Word w.Mod ∷ Word w.And ∷
+    Symbol s.Plus ∷ Symbol s.Minus ∷ Word w.Or ∷ [])
 
 -- the laws of what stands behind one more opener
 pub record BehindLaws (p : p.Deeper) (r : g.Deeper) : Type 0 where
@@ -127,8 +123,10 @@ module _ (room : ℕ) (d : p.Deeper) (r : g.Deeper) (behind : BehindLaws d r) wh
   falls_index : Falls (expect (Symbol s.Comma) >>= (λ at. selector.Index at <$> d.expression))
   falls_index = falls_then (falls_symbol s.Comma) (λ at. law_map (selector.Index at) behind.expression)
 
-  indices_behind : (at : ℕ) → Law true expression_begins any (d.expression >>= (λ first. p.further_indices room d (selector.Index at first ∷ []) >>= (λ all. expect (Symbol s.RightBracket) >> pure all)))
-      (rule.◌>>=◌ r.expression (λ first. rule.◌>>=◌ (rule.many (g.further_index room r)) (λ more. rule.◌>>◌ (rule.symbol s.RightBracket) (rule.gives (selector.Index at first ∷ more)))))
+  indices_behind : (at : ℕ) → Law true expression_begins any (d.expression >>= (λ first. p.further_indices room d (selector.Index at first ∷ []) >>=
+      (λ all. expect (Symbol s.RightBracket) >> pure all)))
+      (rule.◌>>=◌ r.expression (λ first. rule.◌>>=◌ (rule.many (g.further_index room r)) (λ more.
+      rule.◌>>◌ (rule.symbol s.RightBracket) (rule.gives (selector.Index at first ∷ more)))))
   unfolding p.further_index
   indices_behind at =
       law_then behind.expression refl (λ first.
@@ -141,7 +139,8 @@ module _ (room : ℕ) (d : p.Deeper) (r : g.Deeper) (behind : BehindLaws d r) wh
 
   law_width : Law true (is (Symbol s.Colon)) after_expression (p.width room d) (g.width room r)
   unfolding p.width
-  law_width = law_then (law_symbol s.Colon) (within_any expression_begins) (λ at. law_then behind.expression (within_itself after_expression) (λ value. law_pure _ after_expression))
+  law_width =
+      law_then (law_symbol s.Colon) (within_any expression_begins) (λ at. law_then behind.expression (within_itself after_expression) (λ value. law_pure _ after_expression))
 
   law_optional_width : Law true (either (is (Symbol s.Colon)) ends_actual) ends_actual (p.optional_width room d) (rule.optional (g.width room r))
   unfolding p.optional_width
@@ -151,13 +150,15 @@ module _ (room : ℕ) (d : p.Deeper) (r : g.Deeper) (behind : BehindLaws d r) wh
   unfolding p.actual
   law_actual = law_then behind.expression refl (λ value. law_then law_optional_width (within_itself ends_actual) (λ width. law_pure _ ends_actual))
 
-  actuals_behind : (at : ℕ) → Law true expression_begins any (p.actual room d >>= (λ first. p.further_actuals room d (first ∷ []) >>= (λ found. expect (Symbol s.RightParen) >> pure found)))
+  actuals_behind : (at : ℕ) → Law true expression_begins any (p.actual room d >>= (λ first.
+      p.further_actuals room d (first ∷ []) >>= (λ found. expect (Symbol s.RightParen) >> pure found)))
       (rule.◌>>=◌ (rule.separated (rule.symbol s.Comma) (g.actual room r)) (λ found. rule.◌>>◌ (rule.symbol s.RightParen) (rule.gives found)))
   unfolding p.further_actual
   actuals_behind at =
       law_as (same_sym (then_grouped _ _ _))
       (law_then law_actual refl (λ first.
-      law_then (law_many_from (is (Symbol s.Comma)) (is (Symbol s.RightParen)) (law_further (kind.Symbol s.Comma) (symbol_only s.Comma) law_actual) (falls_further (kind.Symbol s.Comma) (symbol_only s.Comma) law_actual) refl refl refl refl refl (first ∷ [])) refl (λ found.
+      law_then (law_many_from (is (Symbol s.Comma)) (is (Symbol s.RightParen)) (law_further (kind.Symbol s.Comma) (symbol_only s.Comma) law_actual)
+      (falls_further (kind.Symbol s.Comma) (symbol_only s.Comma) law_actual) refl refl refl refl refl (first ∷ [])) refl (λ found.
       law_then (law_symbol s.RightParen) refl (λ z. law_pure found any))))
 
   abbrev ends_member : Nexts
@@ -165,7 +166,9 @@ module _ (room : ℕ) (d : p.Deeper) (r : g.Deeper) (behind : BehindLaws d r) wh
 
   law_last_member : Law true (either (is (Symbol s.DotDot)) ends_member) ends_member (p.last_member room d) (rule.optional (rule.◌>>◌ (rule.symbol s.DotDot) r.expression))
   unfolding p.last_member
-  law_last_member = law_optional (is (Symbol s.DotDot)) ends_member (law_then (law_symbol s.DotDot) (within_any expression_begins) (λ at. law_followed ends_member refl behind.expression)) refl refl
+  law_last_member =
+      law_optional (is (Symbol s.DotDot)) ends_member (law_then (law_symbol s.DotDot) (within_any expression_begins)
+      (λ at. law_followed ends_member refl behind.expression)) refl refl
 
   law_member : Law true expression_begins ends_member (p.member room d) (g.member room r)
   unfolding p.member
@@ -175,11 +178,14 @@ module _ (room : ℕ) (d : p.Deeper) (r : g.Deeper) (behind : BehindLaws d r) wh
   unfolding p.some_members p.further_member
   law_some_members = law_separated (kind.Symbol s.Comma) (symbol_only s.Comma) (is (Symbol s.RightBracket)) law_member refl refl refl
 
-  law_members : Law true (either (is (Symbol s.RightBracket)) expression_begins) (is (Symbol s.RightBracket)) (p.members room d) (rule.◌<|>◌ (rule.separated (rule.symbol s.Comma) (g.member room r)) (rule.gives []))
+  law_members : Law true (either (is (Symbol s.RightBracket)) expression_begins) (is (Symbol s.RightBracket)) (p.members room d)
+      (rule.◌<|>◌ (rule.separated (rule.symbol s.Comma) (g.member room r)) (rule.gives []))
   law_members = law_as (or_swapped _ _) (law_branch (is (Symbol s.RightBracket)) (law_pure [] (is (Symbol s.RightBracket))) refl refl law_some_members)
 
-  set_behind : (at : ℕ) → Law true (either (is (Symbol s.RightBracket)) expression_begins) any (p.members room d >>= (λ members. expect (Symbol s.RightBracket) >> pure (e.Set at members)))
-      (rule.◌>>=◌ (rule.◌<|>◌ (rule.separated (rule.symbol s.Comma) (g.member room r)) (rule.gives [])) (λ members. rule.◌>>◌ (rule.symbol s.RightBracket) (rule.gives (e.Set at members))))
+  set_behind : (at : ℕ) → Law true (either (is (Symbol s.RightBracket)) expression_begins) any
+      (p.members room d >>= (λ members. expect (Symbol s.RightBracket) >> pure (e.Set at members)))
+      (rule.◌>>=◌ (rule.◌<|>◌ (rule.separated (rule.symbol s.Comma) (g.member room r)) (rule.gives []))
+      (λ members. rule.◌>>◌ (rule.symbol s.RightBracket) (rule.gives (e.Set at members))))
   set_behind at = law_then law_members (within_itself (is (Symbol s.RightBracket))) (λ members. law_then (law_symbol s.RightBracket) refl (λ z. law_pure _ any))
 
   parenthesized_behind : (at : ℕ) → Law true expression_begins any (d.expression >>= (λ x. expect (Symbol s.RightParen) >> pure (e.Inside at x)))
@@ -209,7 +215,9 @@ module _ (room : ℕ) (d : p.Deeper) (r : g.Deeper) (behind : (n : ℕ) → room
   law_pointer_selection = law_then (law_symbol s.Caret) refl (λ at. law_pure _ any)
 
   law_selection : Law true p.selecting any (p.selection room d) (rule.◌<|>◌ (g.index_list room r) (rule.◌<|>◌ (g.field_selection room r) (g.pointer_selection room r)))
-  law_selection = law_begun p.selecting refl (law_branch (is (Symbol s.LeftBracket)) law_index_list refl refl (law_branch (is (Symbol s.Dot)) law_field_selection refl refl law_pointer_selection))
+  law_selection =
+      law_begun p.selecting refl (law_branch (is (Symbol s.LeftBracket)) law_index_list refl refl
+      (law_branch (is (Symbol s.Dot)) law_field_selection refl refl law_pointer_selection))
 
   falls_field : Falls p.field_selection
   unfolding p.field_selection
@@ -223,15 +231,19 @@ module _ (room : ℕ) (d : p.Deeper) (r : g.Deeper) (behind : (n : ℕ) → room
   falls_selection = falls_branch (is (Symbol s.LeftBracket)) falls_index_list (falls_branch (is (Symbol s.Dot)) falls_field falls_pointer)
 
   -- before any tokens that do not go on with it
-  law_selections : (follow : Nexts) → apart follow p.selecting ≡ true → Law true (either p.selecting follow) follow (p.selections room d) (rule.many_lists (rule.◌<|>◌ (g.index_list room r) (rule.◌<|>◌ (g.field_selection room r) (g.pointer_selection room r))))
+  law_selections : (follow : Nexts) → apart follow p.selecting ≡ true → Law true (either p.selecting follow) follow (p.selections room d)
+      (rule.many_lists (rule.◌<|>◌ (g.index_list room r) (rule.◌<|>◌ (g.field_selection room r) (g.pointer_selection room r))))
   unfolding p.further_selection
   law_selections follow e = law_many_lists p.selecting follow law_selection falls_selection refl e refl (within_any follow) refl
 
   -- behind a name
   abbrev pub access_behind_rule : Identifier → Rule (Access Expr)
-  access_behind_rule name = rule.◌>>=◌ (rule.many_lists (rule.◌<|>◌ (g.index_list room r) (rule.◌<|>◌ (g.field_selection room r) (g.pointer_selection room r)))) (λ selectors. rule.gives (record { name = name; selectors = selectors }))
+  access_behind_rule name =
+      rule.◌>>=◌ (rule.many_lists (rule.◌<|>◌ (g.index_list room r) (rule.◌<|>◌ (g.field_selection room r) (g.pointer_selection room r))))
+      (λ selectors. rule.gives (record { name = name; selectors = selectors }))
 
-  pub law_access_behind_with : (name : Identifier) (follow : Nexts) → apart follow p.selecting ≡ true → Law true (either p.selecting follow) follow (p.access_behind_with room d name) (access_behind_rule name)
+  pub law_access_behind_with : (name : Identifier) (follow : Nexts) → apart follow p.selecting ≡ true →
+      Law true (either p.selecting follow) follow (p.access_behind_with room d name) (access_behind_rule name)
   unfolding p.access_behind_with
   law_access_behind_with name follow e = law_then (law_selections follow e) (within_itself follow) (λ selectors. law_pure _ follow)
 
@@ -278,7 +290,8 @@ module _ (room : ℕ) (d : p.Deeper) (r : g.Deeper) (behind : (n : ℕ) → room
   -- ---- expressions
 
   -- of what an operator stands before
-  module _ {f inner h : Nexts} {o : Parser (ℕ × Operator)} {q : Parser Expr} {b : Rule (ℕ × Operator)} {c : Rule Expr} (operator : Law true f any o b) (falls : Falls o) (operand : Law true inner h q c) where
+  module _ {f inner h : Nexts} {o : Parser (ℕ × Operator)} {q : Parser Expr} {b : Rule (ℕ × Operator)} {c : Rule Expr} (operator : Law true f any o b)
+      (falls : Falls o) (operand : Law true inner h q c) where
     operand_behind : (x : ℕ × Operator) → Law true inner h (q >>= (λ y. pure (an_operation x y))) (rule.◌>>=◌ c (λ y. rule.gives (an_operation x y)))
     operand_behind x = law_then operand (within_itself h) (λ y. law_pure _ h)
 
@@ -290,7 +303,9 @@ module _ (room : ℕ) (d : p.Deeper) (r : g.Deeper) (behind : (n : ℕ) → room
 
   law_further_factors : Law true (either multiplying after_term) after_term (p.further_factors room d) (rule.many (g.operation g.multiplying_operator (g.factor_with room r)))
   unfolding p.further_factor
-  law_further_factors = law_many multiplying after_term (law_operation law_multiplying falls_multiplying law_factor_with) (falls_operation law_multiplying falls_multiplying law_factor_with) refl refl refl refl refl
+  law_further_factors =
+      law_many multiplying after_term (law_operation law_multiplying falls_multiplying law_factor_with)
+      (falls_operation law_multiplying falls_multiplying law_factor_with) refl refl refl refl refl
 
   law_term : Law true factor_begins after_term (p.term room d) (g.term room r)
   unfolding p.term
@@ -311,7 +326,8 @@ module _ (room : ℕ) (d : p.Deeper) (r : g.Deeper) (behind : (n : ℕ) → room
   unfolding p.expression_with p.related
   law_expression_with =
       law_then law_simple refl (λ left.
-      law_then (law_optional relational after_expression (law_followed after_expression refl (law_operation law_relational falls_relational law_simple)) refl refl) (within_itself after_expression) (λ right.
+      law_then (law_optional relational after_expression (law_followed after_expression refl
+      (law_operation law_relational falls_relational law_simple)) refl refl) (within_itself after_expression) (λ right.
       law_pure _ after_expression))
 
 -- ---- the laws, where so many more openers may stand open
@@ -339,7 +355,8 @@ law_expression room = law_expression_with room (p.behind room) (g.behind room) (
 abbrev pub access_behind_rule_at : ℕ → Identifier → Rule (Access Expr)
 access_behind_rule_at room name = access_behind_rule room (p.behind room) (g.behind room) (laws_inside room) name
 
-pub law_access_behind : (room : ℕ) (name : Identifier) (follow : Nexts) → apart follow p.selecting ≡ true → Law true (either p.selecting follow) follow (p.access_behind room name) (access_behind_rule_at room name)
+pub law_access_behind : (room : ℕ) (name : Identifier) (follow : Nexts) → apart follow p.selecting ≡ true →
+    Law true (either p.selecting follow) follow (p.access_behind room name) (access_behind_rule_at room name)
 law_access_behind room = law_access_behind_with room (p.behind room) (g.behind room) (laws_inside room)
 
 pub law_access : (room : ℕ) (follow : Nexts) → apart follow p.selecting ≡ true → Law true (is next.Identifier) follow (p.access room) (g.access room)

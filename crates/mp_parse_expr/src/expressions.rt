@@ -1,3 +1,5 @@
+#![tactic(auto, using(crate::proofs::RoomLemmas::behind_is, mp_cursor::proofs::LoopLemmas::loop_more, mp_cursor::proofs::LoopLemmas::loop_done), unfolding(mp_cursor::specs::Parsers::repeated, crate::specs::Expressions::further_index, crate::specs::Expressions::further_selection, crate::specs::Expressions::further_actual, crate::specs::Expressions::further_member, crate::specs::Expressions::further_factor, crate::specs::Expressions::further_term))]
+
 ghost use Rattle.std.specs.Prelude.{◌≡◌, ◌<◌, [], ◌∷◌};
 ghost use Rattle.mp_ast.specs.ExpressionGrammar as grammar;
 ghost use Rattle.mp_cursor.specs.Parsers.{Reads};
@@ -19,7 +21,6 @@ use std::alloc::Global;
 // In these functions `room` is how many more openers may stand open. Each loop takes a token a turn.
 
 #[cycle(expressions)]
-#[tactic(auto, using(crate::proofs::RoomLemmas::behind_is, mp_cursor::proofs::LoopLemmas::loop_more, mp_cursor::proofs::LoopLemmas::loop_done), unfolding(mp_cursor::specs::Parsers::repeated, crate::specs::Expressions::further_index))]
 fn further_indices(
     alloc: Global,
     tokens: &mut Cursor<'_>,
@@ -106,7 +107,6 @@ fn selection(
 }
 
 #[cycle(expressions)]
-#[tactic(auto, using(mp_cursor::proofs::LoopLemmas::loop_more, mp_cursor::proofs::LoopLemmas::loop_done), unfolding(mp_cursor::specs::Parsers::repeated, crate::specs::Expressions::further_selection))]
 fn selections(
     alloc: Global,
     tokens: &mut Cursor<'_>,
@@ -167,7 +167,6 @@ fn actual(alloc: Global, tokens: &mut Cursor<'_>, room: usize) -> Result<Actual<
 }
 
 #[cycle(expressions)]
-#[tactic(auto, using(mp_cursor::proofs::LoopLemmas::loop_more, mp_cursor::proofs::LoopLemmas::loop_done), unfolding(mp_cursor::specs::Parsers::repeated, crate::specs::Expressions::further_actual))]
 fn further_actuals(
     alloc: Global,
     tokens: &mut Cursor<'_>,
@@ -228,7 +227,6 @@ fn member(alloc: Global, tokens: &mut Cursor<'_>, room: usize) -> Result<Member<
 }
 
 #[cycle(expressions)]
-#[tactic(auto, using(mp_cursor::proofs::LoopLemmas::loop_more, mp_cursor::proofs::LoopLemmas::loop_done), unfolding(mp_cursor::specs::Parsers::repeated, crate::specs::Expressions::further_member))]
 fn further_members(
     alloc: Global,
     tokens: &mut Cursor<'_>,
@@ -331,7 +329,6 @@ fn factor(alloc: Global, tokens: &mut Cursor<'_>, room: usize) -> Result<Expr, F
 // ---- expressions
 
 #[cycle(expressions)]
-#[tactic(auto, using(mp_cursor::proofs::LoopLemmas::loop_more, mp_cursor::proofs::LoopLemmas::loop_done), unfolding(mp_cursor::specs::Parsers::repeated, crate::specs::Expressions::further_factor))]
 fn further_factors(
     alloc: Global,
     tokens: &mut Cursor<'_>,
@@ -381,7 +378,6 @@ fn term(alloc: Global, tokens: &mut Cursor<'_>, room: usize) -> Result<Expr, Fai
 }
 
 #[cycle(expressions)]
-#[tactic(auto, using(mp_cursor::proofs::LoopLemmas::loop_more, mp_cursor::proofs::LoopLemmas::loop_done), unfolding(mp_cursor::specs::Parsers::repeated, crate::specs::Expressions::further_term))]
 fn further_terms(
     alloc: Global,
     tokens: &mut Cursor<'_>,

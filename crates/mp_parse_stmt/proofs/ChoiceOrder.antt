@@ -4,7 +4,7 @@ use Rattle.mp_ast.specs.declared.statements.Statement.{Statement}
 use Rattle.mp_ast.specs.Rules.{Input, Rule}
 use Rattle.mp_ast.specs.Rules.{◌<|>◌ as ◌<|>ʳ◌}
 use Rattle.mp_ast.specs.StatementGrammar as g
-use Rattle.mp_cursor.proofs.Laws.{Same}
+use Rattle.mp_cursor.proofs.RuleLaws.{Same}
 use Rattle.mp_cursor.proofs.SameRules.{same_refl, same_trans, same_or, or_grouped, or_swapped}
 
 -- a choice goes to the front

@@ -15,7 +15,7 @@ use Rattle.mp_cursor.proofs.NextLemmas.{is_same}
 use Rattle.mp_cursor.proofs.NextSets.{within_any, in_first, in_second}
 use Rattle.mp_cursor.proofs.Recovery.{is_else, Moves, Ends, moves_or, ends_right, recovers_branch}
 use Rattle.mp_cursor.proofs.Settled.{put, settles_branch, settles_pure}
-use Rattle.mp_cursor.proofs.Laws.{Law, read, read_is, law_then, law_map, law_word, word_only}
+use Rattle.mp_cursor.proofs.RuleLaws.{Law, read, read_is, law_then, law_map, law_word, word_only}
 use Rattle.mp_parse_stmt.specs.Statements as p
 
 abbrev NoElse : Input → Type 0
@@ -46,8 +46,16 @@ left_out = rule.◌>>◌ (rule.not_before (kind.Word w.Else)) (rule.gives None)
 moves_left_out : Moves left_out
 unfolding next_token
 moves_left_out i x j d =
-    let e = ap (λ m. m.rest) (d.2.1 ∙ d.3.1) in
-    ([], e, λ t h. (tt, put i t, (no_else (put i t) (open_by (is_else t) (λ u. sym (is_no_else i d.2.0 ∙ refl) ∙ ap is_else e ∙ h u)), refl), (d.3.0, ap (λ m. put m t) (d.2.1 ∙ d.3.1))))
+    let e = ap (λ m. m.rest) (d.2.1 ∙ d.3.1) in (
+      [],
+      e,
+      λ t h. (
+        tt,
+        put i t,
+        (no_else (put i t) (open_by (is_else t) (λ u. sym (is_no_else i d.2.0 ∙ refl) ∙ ap is_else e ∙ h u)), refl),
+        (d.3.0, ap (λ m. put m t) (d.2.1 ∙ d.3.1)),
+      ),
+    )
 
 ends_left_out : Ends left_out
 unfolding next_token
@@ -88,6 +96,8 @@ module _ {begins : Nexts} {statement : Parser Statement} {r : Rule Statement} (f
     shrinks = λ i x j h. shrinks_by i x j (is (Word w.Else) (next_token i)) h;
     settles = settles_branch taken (pure None) (is (Word w.Else)) law_taken.settles (settles_pure None);
     moves = moves_or (rule.◌<$>◌ Some (rule.◌>>◌ (rule.word w.Else) r)) left_out law_taken.moves moves_left_out;
-    recovers = λ granted. recovers_branch (is (Word w.Else)) taken (pure None) (rule.◌<$>◌ Some (rule.◌>>◌ (rule.word w.Else) r)) left_out (law_taken.recovers granted) (λ i e h l. absurd (let n : ⊥ = cc in n));
+    recovers =
+        λ granted. recovers_branch (is (Word w.Else)) taken (pure None) (rule.◌<$>◌ Some (rule.◌>>◌ (rule.word w.Else) r)) left_out
+        (law_taken.recovers granted) (λ i e h l. absurd (let n : ⊥ = cc in n));
     ends = λ granted e. ends_right (rule.◌<$>◌ Some (rule.◌>>◌ (rule.word w.Else) r)) left_out ends_left_out;
   }

@@ -14,41 +14,38 @@ use Rattle.mp_cursor.specs.declared.next.Next.TheVariants as next
 use Rattle.mp_cursor.specs.declared.next.Next.TheVariants.{Word, Symbol}
 use Rattle.mp_cursor.specs.Nexts.{Nexts, is, any, either, among}
 use Rattle.mp_cursor.specs.Parsers.{Parser, ◌<$>◌, here}
+use Rattle.mp_cursor.specs.LeafTokens.{constant_begins}
 use Rattle.mp_cursor.proofs.NextSets.{within_any, within_itself}
-use Rattle.mp_cursor.proofs.Laws.{Law, law_pure, law_then, law_map, law_followed, law_begun, law_as, law_here, law_word, law_symbol, symbol_only}
+use Rattle.mp_cursor.proofs.RuleLaws.{Law, law_pure, law_then, law_map, law_followed, law_begun, law_as, law_here, law_word, law_symbol, symbol_only}
 use Rattle.mp_cursor.proofs.SameRules.{same_refl, same_sym, same_trans, same_or, or_swapped, then_grouped, factored, behind_list}
 use Rattle.mp_cursor.proofs.LeafLaws.{law_identifier, law_number, has_room, law_opened_word}
 use Rattle.mp_cursor.proofs.ChoiceLaws.{law_branch}
 use Rattle.mp_cursor.proofs.ListLaws.{law_separated}
 use Rattle.mp_cursor.proofs.SeriesLaws.{law_series}
 use Rattle.mp_cursor.proofs.ConstantLaws.{law_constants}
-use Rattle.mp_parse_expr.proofs.ExpressionLaws.{expression_begins, after_access, after_expression, law_expression, law_access, law_access_behind, access_behind_rule_at, law_actuals}
+use Rattle.mp_parse_expr.specs.ExpressionFollows.{after_access, after_expression}
+use Rattle.mp_parse_expr.proofs.ExpressionLaws.{expression_begins, law_expression, law_access, law_access_behind, access_behind_rule_at, law_actuals}
 use Rattle.mp_parse_stmt.specs.Statements as p
+use Rattle.mp_parse_stmt.specs.Statements.{after_statement, after_sequence}
 use Rattle.mp_parse_stmt.proofs.ElseLaws.{law_else_part}
 use Rattle.mp_parse_stmt.proofs.ChoiceOrder.{same_choices}
 
 -- ---- what begins and what may follow
 
--- what may follow a statement
-abbrev pub after_statement : Nexts
-after_statement = among (Symbol s.Semicolon ∷ Word w.End ∷ Word w.Else ∷ Word w.Until ∷ next.End ∷ [])
-
 -- what a statement without a label begins with; an empty one stands before what may follow it
 abbrev pub unlabelled_begins : Nexts
-unlabelled_begins = either (among (next.Identifier ∷ Word w.Goto ∷ Word w.Begin ∷ Word w.If ∷ Word w.Case ∷ Word w.While ∷ Word w.Repeat ∷ Word w.For ∷ Word w.With ∷ [])) after_statement
+unlabelled_begins =
+    either (among (next.Identifier ∷ Word w.Goto ∷ Word w.Begin ∷ Word w.If ∷ Word w.Case ∷ Word w.While ∷ Word w.Repeat ∷ Word w.For ∷ Word w.With ∷ [])) after_statement
 
 abbrev pub statement_begins : Nexts
 statement_begins = either (is next.Number) unlabelled_begins
-
--- what may follow statements with semicolons between them
-abbrev pub after_sequence : Nexts
-after_sequence = among (Word w.End ∷ Word w.Until ∷ [])
 
 -- ---- simple statements
 
 module _ (room : ℕ) where
   law_assignment_behind : (name : Identifier) → Law true p.assigning after_statement (p.assignment_behind room name)
-      (rule.◌>>=◌ (access_behind_rule_at room name) (λ variable. rule.◌>>=◌ (rule.symbol s.Assign) (λ at. rule.◌>>=◌ (e.expression room) (λ value. rule.gives (t.Assign variable at value)))))
+      (rule.◌>>=◌ (access_behind_rule_at room name) (λ variable. rule.◌>>=◌ (rule.symbol s.Assign)
+      (λ at. rule.◌>>=◌ (e.expression room) (λ value. rule.gives (t.Assign variable at value)))))
   unfolding p.assignment_behind
   law_assignment_behind name =
       law_begun p.assigning refl
@@ -87,7 +84,8 @@ law_direction =
 
 -- ---- sequences
 
-pub law_sequence_of : {statement : Parser Statement} {r : Rule Statement} → Law true statement_begins after_statement statement r → Law true statement_begins after_sequence (p.sequence statement) (g.sequence r)
+pub law_sequence_of : {statement : Parser Statement} {r : Rule Statement} → Law true statement_begins after_statement statement r →
+    Law true statement_begins after_sequence (p.sequence statement) (g.sequence r)
 unfolding p.sequence p.further_statement
 law_sequence_of a = law_separated (kind.Symbol s.Semicolon) (symbol_only s.Semicolon) after_sequence a refl refl refl
 
@@ -114,7 +112,7 @@ module _ (room : ℕ) (d : p.Deeper) (r : g.Deeper) (behind : BehindLaws d r) wh
 
   -- ---- what has statements in it
 
-  law_arm : Law true p.arm_begins after_statement (p.arm d.statement) (g.arm r.statement)
+  law_arm : Law true constant_begins after_statement (p.arm d.statement) (g.arm r.statement)
   unfolding p.arm
   law_arm =
       law_then law_constants refl (λ constants.
@@ -122,10 +120,10 @@ module _ (room : ℕ) (d : p.Deeper) (r : g.Deeper) (behind : BehindLaws d r) wh
       law_then behind.statement (within_itself after_statement) (λ body.
       law_pure _ after_statement)))
 
-  law_arms : Law true p.arm_begins (is (Word w.End)) (p.arms d.statement)
+  law_arms : Law true constant_begins (is (Word w.End)) (p.arms d.statement)
       (rule.◌>>=◌ (rule.separated (rule.symbol s.Semicolon) (g.arm r.statement)) (λ arms. rule.◌>>◌ (rule.optional (rule.symbol s.Semicolon)) (rule.gives arms)))
   unfolding p.arms p.further_arm
-  law_arms = law_series (kind.Symbol s.Semicolon) (symbol_only s.Semicolon) p.arm_begins (is (Word w.End)) law_arm (within_itself p.arm_begins) refl refl refl refl
+  law_arms = law_series (kind.Symbol s.Semicolon) (symbol_only s.Semicolon) constant_begins (is (Word w.End)) law_arm (within_itself constant_begins) refl refl refl refl
 
 module _ (room : ℕ) (d : p.Deeper) (r : g.Deeper) (behind : (n : ℕ) → room ≡ suc n → BehindLaws d r) where
   -- ---- structured statements
@@ -152,7 +150,7 @@ module _ (room : ℕ) (d : p.Deeper) (r : g.Deeper) (behind : (n : ℕ) → room
   law_case =
       law_opened_word w.Case refl room (λ n e at.
       law_then (behind n e).expression refl (λ index.
-      law_then (law_word w.Of) (within_any p.arm_begins) (λ z.
+      law_then (law_word w.Of) (within_any constant_begins) (λ z.
       law_as (behind_list _ _ _) (law_then (law_arms room d r (behind n e)) refl (λ arms.
       law_then (law_word w.End) refl (λ z. law_pure _ any))))))
 

@@ -1,4 +1,4 @@
--- Parsers of statements.
+-- Parsers of statements, which no statement about programs cites: `laws` says by the grammar what they read.
 use Rattle.std.specs.Prelude.{ℕ, zero, suc, List, [], ◌∷◌, Option}
 use Rattle.mp_ast.specs.declared.words.WordSymbol.TheVariants as w
 use Rattle.mp_ast.specs.declared.symbols.Symbol.TheVariants as s
@@ -17,6 +17,7 @@ use Rattle.mp_cursor.specs.declared.next.Next.TheVariants.{Word, Symbol}
 use Rattle.mp_cursor.specs.Nexts.{Nexts, is, among}
 use Rattle.mp_cursor.specs.Parsers.{Parser, ◌>>=◌, ◌>>◌, ◌<$>◌, pure, refuse, branch, here, expect, opening, identifier, number, repeated, repeated_series, and_one, optional}
 use Rattle.mp_cursor.specs.Leaves.{constants}
+use Rattle.mp_cursor.specs.LeafTokens.{constant_begins}
 use Rattle.mp_parse_expr.specs.Expressions.{expression, access, access_behind, actuals}
 
 -- what stands behind one more opener
@@ -107,16 +108,12 @@ arm statement = do
   body ← statement
   pure (record { constants = found; body = body })
 
--- the tokens that an arm begins with
-abbrev pub arm_begins : Nexts
-arm_begins = among (next.Identifier ∷ next.Number ∷ next.Text ∷ Symbol s.Plus ∷ Symbol s.Minus ∷ [])
-
 -- arms with semicolons between them, and perhaps one more semicolon
 unfoldable pub further_arm : Parser Statement → List (Arm Statement) → Parser (List (Arm Statement))
 further_arm statement = and_one (arm statement)
 
 abbrev pub further_arms : Parser Statement → List (Arm Statement) → Parser (List (Arm Statement))
-further_arms statement = repeated_series (Symbol s.Semicolon) arm_begins (further_arm statement)
+further_arms statement = repeated_series (Symbol s.Semicolon) constant_begins (further_arm statement)
 
 unfoldable pub arms : Parser Statement → Parser (List (Arm Statement))
 arms statement = do
@@ -213,3 +210,13 @@ behind (suc room) = record { expression = expression room; access = access room;
 
 abbrev pub statement : ℕ → Parser Statement
 statement room = statement_with room (behind room)
+
+-- ---- what may follow
+
+-- the tokens that may follow a statement
+abbrev pub after_statement : Nexts
+after_statement = among (Symbol s.Semicolon ∷ Word w.End ∷ Word w.Else ∷ Word w.Until ∷ next.End ∷ [])
+
+-- the tokens that may follow statements with semicolons between them
+abbrev pub after_sequence : Nexts
+after_sequence = among (Word w.End ∷ Word w.Until ∷ [])

@@ -6,7 +6,7 @@ ghost use Rattle.mp_parse_stmt.specs.Statements.{behind};
 use crate::heads::{for_head, records};
 use crate::simple::{goto_statement, named};
 use mp_ast::{Arm, Statement, Symbol, WordSymbol};
-use mp_cursor::{Cursor, Failure, Next, constants, single};
+use mp_cursor::{Cursor, Failure, Next, begins_constant, constants, single};
 use mp_parse_expr::expression;
 use sqlite_items::{Boxed, Items};
 use std::alloc::Global;
@@ -80,16 +80,6 @@ fn arm(alloc: Global, tokens: &mut Cursor<'_>, room: usize) -> Result<Arm<Statem
     Ok(Arm { constants, body })
 }
 
-// Whether an arm begins with the token, as each constant does.
-fn begins_arm(next: Next) -> bool
-    ensures { result ≡ spec.arm_begins next }
-{
-    matches!(
-        next,
-        Next::Identifier | Next::Number | Next::Text | Next::Symbol(Symbol::Plus | Symbol::Minus)
-    )
-}
-
 #[cycle(statements)]
 #[tactic(auto, using(mp_cursor::proofs::LoopLemmas::series_more, mp_cursor::proofs::LoopLemmas::series_done), unfolding(mp_cursor::specs::Parsers::repeated_series, crate::specs::Statements::further_arm))]
 fn further_arms(
@@ -106,7 +96,7 @@ fn further_arms(
             return Ok(found);
         }
         tokens.expect(Next::Symbol(Symbol::Semicolon))?;
-        if !begins_arm(tokens.next()) {
+        if !begins_constant(tokens.next()) {
             return Ok(found);
         }
         found.push(arm(alloc, tokens, room)?)?;

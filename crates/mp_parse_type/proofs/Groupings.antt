@@ -8,7 +8,7 @@ use Rattle.mp_cursor.specs.Parsers.{Parser, next_token, branch}
 use Rattle.mp_cursor.proofs.NextSets.{within, within_is, in_first, in_second}
 use Rattle.mp_cursor.proofs.Settled.{settles_branch}
 use Rattle.mp_cursor.proofs.Recovery.{moves_or, moves_as, recovers_branch, recovers_as, ends_as}
-use Rattle.mp_cursor.proofs.Laws.{Law, Same, read}
+use Rattle.mp_cursor.proofs.RuleLaws.{Law, Same, read}
 use Rattle.mp_cursor.proofs.SameRules.{same_refl, same_sym, same_trans, same_then, same_or, or_grouped, or_swapped, then_grouped, gives_first}
 
 -- what goes on behind two, goes on behind the second
@@ -35,7 +35,8 @@ pub record Splits {A : Type 0} (test : Nexts) (r s t : Rule A) : Type 0 where
   pub first : (i : Input) (x : A) (j : Input) → r i x j → t i x j
   pub second : (i : Input) (x : A) (j : Input) → s i x j → t i x j
 
-module _ {A : Type 0} {u v : Bool} {f h g : Nexts} {p q : Parser A} {r s t : Rule A} (test : Nexts) (a : Law u f g p r) (inside : within f test ≡ true) (c : Law v h g q s) (splits : Splits test r s t) where
+module _ {A : Type 0} {u v : Bool} {f h g : Nexts} {p q : Parser A} {r s t : Rule A} (test : Nexts) (a : Law u f g p r)
+    (inside : within f test ≡ true) (c : Law v h g q s) (splits : Splits test r s t) where
   chosen_sound : (i : Input) (x : A) (j : Input) (b : Bool) → (if b then p i else q i) ≡ read x j → t i x j
   chosen_sound i x j true e = splits.first i x j (a.sound i x j e)
   chosen_sound i x j false e = splits.second i x j (c.sound i x j e)

@@ -13,12 +13,13 @@ use Rattle.mp_cursor.specs.declared.next.Next.TheVariants.{Word, Symbol}
 use Rattle.mp_cursor.specs.Nexts.{Nexts, is, any, either, among, but}
 use Rattle.mp_cursor.specs.Parsers.{Parser}
 use Rattle.mp_cursor.proofs.NextSets.{apart, within_any}
-use Rattle.mp_cursor.proofs.Laws.{Law, law_pure, law_then, law_map, law_followed, law_begun, law_as, law_word, law_symbol, law_never, law_unfinished, symbol_only}
+use Rattle.mp_cursor.proofs.RuleLaws.{Law, law_pure, law_then, law_map, law_followed, law_begun, law_as, law_word, law_symbol, law_never, law_unfinished, symbol_only}
 use Rattle.mp_cursor.proofs.LeafLaws.{law_identifier, has_room, law_opened_symbol}
 use Rattle.mp_cursor.proofs.ChoiceLaws.{law_branch, law_optional}
 use Rattle.mp_cursor.proofs.ListLaws.{law_separated}
 use Rattle.mp_cursor.proofs.ConstantLaws.{law_identifiers}
 use Rattle.mp_parse_type.specs.Headings as p
+use Rattle.mp_parse_type.specs.Headings.{after_heading}
 use Rattle.mp_parse_type.proofs.Groupings.{last_first}
 
 -- ---- what begins and what may follow
@@ -35,10 +36,6 @@ after_formal = but (Symbol s.LeftParen ∷ [])
 
 abbrev pub heading_begins : Nexts
 heading_begins = among (Word w.Procedure ∷ Word w.Function ∷ [])
-
--- a parenthesis, or a colon, goes on with a heading
-abbrev pub after_heading : Nexts
-after_heading = but (Symbol s.LeftParen ∷ Symbol s.Colon ∷ [])
 
 -- ---- parameters
 
@@ -120,4 +117,5 @@ law_function_heading room =
 -- a heading, where so many more openers may stand open
 pub law_heading : (room : ℕ) → Law true heading_begins after_heading (p.heading room) (g.heading room)
 unfolding p.heading
-law_heading room = law_begun heading_begins refl (law_branch (is (Word w.Procedure)) (law_followed after_heading refl (law_procedure_heading room)) refl refl (law_function_heading room))
+law_heading room =
+    law_begun heading_begins refl (law_branch (is (Word w.Procedure)) (law_followed after_heading refl (law_procedure_heading room)) refl refl (law_function_heading room))

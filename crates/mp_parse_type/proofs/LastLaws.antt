@@ -13,11 +13,15 @@ use Rattle.mp_cursor.proofs.NextSets.{within, apart, within_is, apart_is, in_fir
 use Rattle.mp_parse_type.proofs.SettledLast.{settles_with_last}
 use Rattle.mp_cursor.specs.declared.failure.Failure.{Failure}
 use Rattle.mp_cursor.proofs.Settled.{place, stopped, put}
-use Rattle.mp_cursor.proofs.Recovery.{failure_is, Moves, Taken, Ends, Front, Stops, stops_where, front_as, front_first, front_second, front_between, moves_then, moves_or, moves_pure, moves_many, moves_token, ends_then, ends_pure}
-use Rattle.mp_cursor.proofs.Laws.{expect_first, not_end, Law, read, read_is, both_ok, law_map, law_expect, IsOnly, token_falls}
+use Rattle.mp_cursor.proofs.Recovery.{failure_is, Moves, Taken, Ends, Front, Stops, stops_where, front_as, front_first, front_second, front_between}
+use Rattle.mp_cursor.proofs.Recovery.{moves_then, moves_or, moves_pure, moves_many, moves_token, ends_then, ends_pure}
+use Rattle.mp_cursor.proofs.RuleLaws.{expect_first, not_end, Law, read, read_is, both_ok, law_map, law_expect, IsOnly, token_falls}
 use Rattle.mp_parse_type.specs.Types.{series_and_last, repeated_and_last}
 
-module _ {A B C : Type 0} {u : Bool} {first inner begin : Nexts} {p : Parser A} {r : Rule A} {q : Parser C} {t : Rule C} (k : TokenKind) (o : IsOnly k) (test follow : Nexts) (add : List A → C → B) (nothing : C) (a : Law u first inner p r) (c : Law true begin follow q t) (begins : within first test ≡ true) (stops : apart follow (is (class_of k)) ≡ true) (ends : apart begin test ≡ true) (again : within (is (class_of k)) inner ≡ true) (last : within follow inner ≡ true) where
+module _ {A B C : Type 0} {u : Bool} {first inner begin : Nexts} {p : Parser A} {r : Rule A} {q : Parser C} {t : Rule C} (k : TokenKind)
+    (o : IsOnly k) (test follow : Nexts) (add : List A → C → B) (nothing : C) (a : Law u first inner p r) (c : Law true begin follow q t)
+    (begins : within first test ≡ true) (stops : apart follow (is (class_of k)) ≡ true) (ends : apart begin test ≡ true)
+    (again : within (is (class_of k)) inner ≡ true) (last : within follow inner ≡ true) where
   abbrev n : Next
   n = class_of k
 
@@ -45,19 +49,29 @@ module _ {A B C : Type 0} {u : Bool} {first inner begin : Nexts} {p : Parser A} 
   ended : (found : List A) (i : Input) (y : B) (j : Input) → read (whole found) i ≡ read y j → Ended found i y j
   ended found i y j h = let w = read_is (whole found) y i j h in ([], i, no_more, nothing, inr (refl, w.1), ap (λ z. add z nothing) (append-nil found) ∙ w.0)
 
-  behind_sound : (more : List A → Parser B) (found : List A) (i : Input) (at : ℕ) (m : Input) (y : B) (j : Input) → token k i at m → ((z : List A) (l : Input) → more z l ≡ read y j → Ended z l y j) → (b : Bool) → (if b then (and_one p found >>= more) m else with_last found m) ≡ read y j → Ended found i y j
+  behind_sound : (more : List A → Parser B) (found : List A) (i : Input) (at : ℕ) (m : Input) (y : B) (j : Input) → token k i at m →
+      ((z : List A) (l : Input) → more z l ≡ read y j → Ended z l y j) → (b : Bool) → (if b then
+      (and_one p found >>= more) m else with_last found m) ≡ read y j → Ended found i y j
   behind_sound more found i at m y j d ih true h =
       let w = both_ok (and_one p found m) more y j h in
       let u = both_ok (p m) (λ x. pure (found ++ x ∷ [])) w.0 w.1 w.2 in
       let e = read_is (found ++ u.0 ∷ []) w.0 u.1 w.1 u.3 in
-      let s = ih w.0 w.1 w.3 in
-      (u.0 ∷ s.0, s.1, one_more u.0 s.0 i w.1 (at, m, d, subst (λ l. r m u.0 l) e.1 (a.sound m u.0 u.1 u.2)) s.2, s.3, s.4, ap (λ z. add z s.3) (sym (append_assoc found (u.0 ∷ []) s.0) ∙ ap (λ z. z ++ s.0) e.0) ∙ s.5)
+      let s = ih w.0 w.1 w.3 in (
+        u.0 ∷ s.0,
+        s.1,
+        one_more u.0 s.0 i w.1 (at, m, d, subst (λ l. r m u.0 l) e.1 (a.sound m u.0 u.1 u.2)) s.2,
+        s.3,
+        s.4,
+        ap (λ z. add z s.3) (sym (append_assoc found (u.0 ∷ []) s.0) ∙ ap (λ z. z ++ s.0) e.0) ∙ s.5,
+      )
   behind_sound more found i at m y j d ih false h =
       let u = both_ok (q m) (λ x. pure (add found x)) y j h in
       let e = read_is (add found u.0) y u.1 j u.3 in
       ([], i, no_more, u.0, inl (at, m, d, subst (λ l. t m u.0 l) e.1 (c.sound m u.0 u.1 u.2)), ap (λ z. add z u.0) (append-nil found) ∙ e.0)
 
-  turn_sound : (more : List A → Parser B) (found : List A) (i : Input) (y : B) (j : Input) → ((z : List A) (l : Input) → more z l ≡ read y j → Ended z l y j) → (b : Bool) → (if b then (expect n >> behind more found) i else read (whole found) i) ≡ read y j → Ended found i y j
+  turn_sound : (more : List A → Parser B) (found : List A) (i : Input) (y : B) (j : Input) →
+      ((z : List A) (l : Input) → more z l ≡ read y j → Ended z l y j) → (b : Bool) → (if b then (expect n >> behind more found) i else read
+      (whole found) i) ≡ read y j → Ended found i y j
   turn_sound more found i y j ih true h =
       let w = both_ok (expect n i) (λ at. behind more found) y j h in
       behind_sound more found i w.0 w.1 y j ((law_expect {P = Unit {0}} k o).sound i w.0 w.1 w.2) ih (test (next_token w.1)) w.3
@@ -68,7 +82,9 @@ module _ {A B C : Type 0} {u : Bool} {first inner begin : Nexts} {p : Parser A} 
   list_sound zero found i y j h = ended found i y j h
   list_sound (suc count) found i y j h = turn_sound (rest count) found i y j (λ z l e. list_sound count z l y j e) (is n (next_token i)) h
 
-  behind_shrinks : (more : List A → Parser B) (found : List A) (m : Input) (y : B) (j : Input) → ((z : List A) (l : Input) → more z l ≡ read y j → length j.rest ≤ length l.rest) → (b : Bool) → (if b then (and_one p found >>= more) m else with_last found m) ≡ read y j → length j.rest ≤ length m.rest
+  behind_shrinks : (more : List A → Parser B) (found : List A) (m : Input) (y : B) (j : Input) →
+      ((z : List A) (l : Input) → more z l ≡ read y j → length j.rest ≤ length l.rest) → (b : Bool) →
+      (if b then (and_one p found >>= more) m else with_last found m) ≡ read y j → length j.rest ≤ length m.rest
   behind_shrinks more found m y j ih true h =
       let w = both_ok (and_one p found m) more y j h in
       let f = (law_map (λ x. found ++ x ∷ []) a).shrinks m w.0 w.1 w.2 in
@@ -76,7 +92,9 @@ module _ {A B C : Type 0} {u : Bool} {first inner begin : Nexts} {p : Parser A} 
       omega arith
   behind_shrinks more found m y j ih false h = (law_map (add found) c).shrinks m y j h
 
-  turn_shrinks : (more : List A → Parser B) (found : List A) (i : Input) (y : B) (j : Input) → ((z : List A) (l : Input) → more z l ≡ read y j → length j.rest ≤ length l.rest) → (b : Bool) → (if b then (expect n >> behind more found) i else read (whole found) i) ≡ read y j → length j.rest ≤ length i.rest
+  turn_shrinks : (more : List A → Parser B) (found : List A) (i : Input) (y : B) (j : Input) →
+      ((z : List A) (l : Input) → more z l ≡ read y j → length j.rest ≤ length l.rest) → (b : Bool) →
+      (if b then (expect n >> behind more found) i else read (whole found) i) ≡ read y j → length j.rest ≤ length i.rest
   turn_shrinks more found i y j ih true h =
       let w = both_ok (expect n i) (λ at. behind more found) y j h in
       let e = (law_expect {P = Unit {0}} k o).shrinks i w.0 w.1 w.2 in
@@ -103,7 +121,8 @@ module _ {A B C : Type 0} {u : Bool} {first inner begin : Nexts} {p : Parser A} 
   list_begins l v _ _ no_more = v
   list_begins l v _ _ (one_more x xs i m d ds) = in_first (is n) follow (next_token i) (sees i d.0 d.1 d.2)
 
-  ending_read : (count : ℕ) (found : List A) (i : Input) (e : C) (j : Input) → ending i e j → follow (next_token j) ≡ true → length i.rest ≤ count → rest count found i ≡ read (add found e) j
+  ending_read : (count : ℕ) (found : List A) (i : Input) (e : C) (j : Input) → ending i e j → follow (next_token j) ≡ true → length i.rest ≤ count →
+      rest count found i ≡ read (add found e) j
   unfolding series_and_last
   ending_read zero found i e j (inl d) v l = absurd (let f = token_falls k i d.0 d.1 d.2 in let z : ⊥ = omega arith in z)
   ending_read (suc count) found i e j (inl d) v l =
@@ -113,10 +132,12 @@ module _ {A B C : Type 0} {u : Bool} {first inner begin : Nexts} {p : Parser A} 
       ∙ ap (λ u. and_then u (λ x. pure (add found x))) (c.complete d.1 e j d.3 v)
   ending_read zero found i e j (inr d) v l = ap (λ z. read (add found z) i) d.0 ∙ ap (λ m. read (add found e) m) d.1
   ending_read (suc count) found i e j (inr d) v l =
-      ap (λ b. if b then (expect n >> behind (rest count) found) i else read (whole found) i) (apart_is follow (is n) stops (next_token i) (ap (λ m. follow (next_token m)) d.1 ∙ v))
+      ap (λ b. if b then (expect n >> behind (rest count) found) i else read (whole found) i)
+      (apart_is follow (is n) stops (next_token i) (ap (λ m. follow (next_token m)) d.1 ∙ v))
       ∙ ap (λ z. read (add found z) i) d.0 ∙ ap (λ m. read (add found e) m) d.1
 
-  list_complete : (e : C) (l j : Input) → ending l e j → follow (next_token j) ≡ true → (count : ℕ) (found xs : List A) (i : Input) → Many (token k >>ʳ r) l xs i → length i.rest ≤ count → rest count found i ≡ read (add (found ++ xs) e) j
+  list_complete : (e : C) (l j : Input) → ending l e j → follow (next_token j) ≡ true → (count : ℕ) (found xs : List A) (i : Input) →
+      Many (token k >>ʳ r) l xs i → length i.rest ≤ count → rest count found i ≡ read (add (found ++ xs) e) j
   unfolding series_and_last
   list_complete e l j s v count found _ _ no_more h = ending_read count found l e j s v h ∙ ap (λ z. read (add z e) j) (sym (append-nil found))
   list_complete e l j s v zero found _ _ (one_more x xs i m d ds) h = absurd (let f = token_falls k i d.0 d.1 d.2 in let z : ⊥ = omega arith in z)
@@ -179,16 +200,22 @@ module _ {A B C : Type 0} {u : Bool} {first inner begin : Nexts} {p : Parser A} 
   abbrev Inside : List A → Input → Failure → Type 0
   Inside found i e = ((place e < length i.rest) × Front (All found) i (place e)) ⊎ (place e ≡ length i.rest)
 
-  last_stops : (found : List A) (i : Input) (at : ℕ) (m : Input) (e : Failure) → token k i at m → ((place e < length m.rest) × Front (add found <$>ʳ t) m (place e)) ⊎ (place e ≡ length m.rest) → Inside found i e
+  last_stops : (found : List A) (i : Input) (at : ℕ) (m : Input) (e : Failure) → token k i at m →
+      ((place e < length m.rest) × Front (add found <$>ʳ t) m (place e)) ⊎ (place e ≡ length m.rest) → Inside found i e
   last_stops found i at m e d (inl w) =
       let v = w.0 in
       let l = token_falls k i at m d in
-      inl (omega (arith, v, l), front_as (last_item found) (All found) i (place e) (as_last found) (front_second (token k) (λ at. add found <$>ʳ t) i at m (place e) (moves_token k i at m d) w.1 w.0))
+      inl (
+        omega (arith, v, l),
+        front_as (last_item found) (All found) i (place e) (as_last found)
+            (front_second (token k) (λ at. add found <$>ʳ t) i at m (place e) (moves_token k i at m d) w.1 w.0),
+      )
   last_stops found i at m e d (inr w) =
       let l = token_falls k i at m d in
       inl (omega (arith, w, l), after_separator found i at m d (place e) w)
 
-  item_stops : (more : List A → Parser B) (found : List A) (i : Input) (at : ℕ) (m : Input) (e : Failure) → token k i at m → ((z : List A) → Stops (more z) (All z)) → (o : Outcome A) → p m ≡ o → and_then (and_then o (λ x. pure (found ++ x ∷ []))) more ≡ stopped e → Inside found i e
+  item_stops : (more : List A → Parser B) (found : List A) (i : Input) (at : ℕ) (m : Input) (e : Failure) → token k i at m →
+      ((z : List A) → Stops (more z) (All z)) → (o : Outcome A) → p m ≡ o → and_then (and_then o (λ x. pure (found ++ x ∷ []))) more ≡ stopped e → Inside found i e
   item_stops more found i at m e d ih (Err f) g h = first_stops (stops_where p r a.settles (a.recovers tt) m e (g ∙ ap stopped (failure_is {A = B} f e h)))
     where
       l : length m.rest < length i.rest
@@ -200,7 +227,8 @@ module _ {A B C : Type 0} {u : Bool} {first inner begin : Nexts} {p : Parser A} 
           inl (
             omega (arith, v, l),
             front_as ((token k >>ʳ r) >>=ʳ (λ x. All (found ++ x ∷ []))) (All found) i (place e) (in_front found)
-                (front_first (token k >>ʳ r) (λ x. All (found ++ x ∷ [])) i (place e) (front_second (token k) (λ at. r) i at m (place e) (moves_token k i at m d) w.1 w.0) (λ x. ends_all (found ++ x ∷ []))),
+                (front_first (token k >>ʳ r) (λ x. All (found ++ x ∷ [])) i (place e) (front_second (token k) (λ at. r) i at m (place e)
+                (moves_token k i at m d) w.1 w.0) (λ x. ends_all (found ++ x ∷ []))),
           )
       first_stops (inr w) = inl (omega (arith, w, l), after_separator found i at m d (place e) w)
   item_stops more found i at m e d ih (Ok x) g h = second_stops (ih (found ++ x.0 ∷ []) x.1 e h)
@@ -229,15 +257,19 @@ module _ {A B C : Type 0} {u : Bool} {first inner begin : Nexts} {p : Parser A} 
                 (front_between (token k >>ʳ r) (λ x. All (found ++ x ∷ [])) i x.0 x.1 (place e) taken (ends_all (found ++ x.0 ∷ []) x.1) w),
           )
 
-  behind_stops : (more : List A → Parser B) (found : List A) (i : Input) (at : ℕ) (m : Input) (e : Failure) → token k i at m → ((z : List A) → Stops (more z) (All z)) → (b : Bool) → (if b then (and_one p found >>= more) m else with_last found m) ≡ stopped e → Inside found i e
+  behind_stops : (more : List A → Parser B) (found : List A) (i : Input) (at : ℕ) (m : Input) (e : Failure) → token k i at m →
+      ((z : List A) → Stops (more z) (All z)) → (b : Bool) → (if b then (and_one p found >>= more) m else with_last found m) ≡ stopped e → Inside found i e
   behind_stops more found i at m e d ih true h = item_stops more found i at m e d ih (p m) refl h
-  behind_stops more found i at m e d ih false h = last_stops found i at m e d (stops_where (with_last found) (add found <$>ʳ t) (law_map (add found) c).settles ((law_map (add found) c).recovers tt) m e h)
+  behind_stops more found i at m e d ih false h =
+      last_stops found i at m e d (stops_where (with_last found) (add found <$>ʳ t) (law_map (add found) c).settles ((law_map (add found) c).recovers tt) m e h)
 
-  separator_stops : (more : List A → Parser B) (found : List A) (i : Input) (e : Failure) → ((z : List A) → Stops (more z) (All z)) → (o : Outcome ℕ) → expect n i ≡ o → and_then o (λ at. behind more found) ≡ stopped e → Inside found i e
+  separator_stops : (more : List A → Parser B) (found : List A) (i : Input) (e : Failure) → ((z : List A) → Stops (more z) (All z)) →
+      (o : Outcome ℕ) → expect n i ≡ o → and_then o (λ at. behind more found) ≡ stopped e → Inside found i e
   separator_stops more found i e ih (Ok x) g h = behind_stops more found i x.0 x.1 e ((law_expect {P = Unit {0}} k o).sound i x.0 x.1 g) ih (test (next_token x.1)) h
   separator_stops more found i e ih (Err f) g h = inr (expect_first k i e (g ∙ ap stopped (failure_is {A = B} f e h)))
 
-  turn_stops : (more : List A → Parser B) (found : List A) (i : Input) (e : Failure) → ((z : List A) → Stops (more z) (All z)) → (b : Bool) → (if b then (expect n >> behind more found) i else read (whole found) i) ≡ stopped e → Inside found i e
+  turn_stops : (more : List A → Parser B) (found : List A) (i : Input) (e : Failure) → ((z : List A) → Stops (more z) (All z)) → (b : Bool) →
+      (if b then (expect n >> behind more found) i else read (whole found) i) ≡ stopped e → Inside found i e
   turn_stops more found i e ih true h = separator_stops more found i e ih (expect n i) refl h
   turn_stops more found i e ih false h = absurd (let z : ⊥ = cc in z)
 
@@ -250,7 +282,8 @@ module _ {A B C : Type 0} {u : Bool} {first inner begin : Nexts} {p : Parser A} 
   front_of found i e l (inl w) = w.1
   front_of found i e l (inr w) = absurd (let z : ⊥ = omega (arith, w, l) in z)
 
-  pub law_with_last : (found : List A) → Law true (either (is n) follow) follow (repeated_and_last n test (and_one p) with_last whole found) (many (token k >>ʳ r) >>=ʳ (λ xs. ending >>=ʳ (λ e. gives (add (found ++ xs) e))))
+  pub law_with_last : (found : List A) → Law true (either (is n) follow) follow (repeated_and_last n test (and_one p) with_last whole found)
+      (many (token k >>ʳ r) >>=ʳ (λ xs. ending >>=ʳ (λ e. gives (add (found ++ xs) e))))
   unfolding repeated_and_last left
   law_with_last found = record {
     sound = λ i y j h. let w = list_sound (length i.rest) found i y j h in (w.0, w.1, w.2, (w.3, j, w.4, (w.5, refl)));
@@ -263,7 +296,9 @@ module _ {A B C : Type 0} {u : Bool} {first inner begin : Nexts} {p : Parser A} 
         let v = ap (λ m. follow (next_token m)) t.3.1 ∙ e in
         list_begins d.1 (ending_begins d.1 t.0 t.1 t.2 v) d.0 i d.2;
     shrinks = λ i y j h. list_shrinks (length i.rest) found i y j h;
-    settles = settles_with_last n test (and_one p) with_last whole (not_end k o) separator_falls item_shrinks (λ x. (law_map (λ y. x ++ y ∷ []) a).settles) (λ x. (law_map (add x) c).settles) found;
+    settles =
+        settles_with_last n test (and_one p) with_last whole (not_end k o) separator_falls item_shrinks (λ x. (law_map (λ y. x ++ y ∷ []) a).settles)
+        (λ x. (law_map (add x) c).settles) found;
     moves = moves_all found;
     recovers = λ granted i e h l. front_of found i e l (list_stops (length i.rest) found i e h);
     ends = λ granted e. ends_all found;

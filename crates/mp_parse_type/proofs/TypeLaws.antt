@@ -25,9 +25,10 @@ use Rattle.mp_cursor.specs.Nexts.{Nexts, class_of, is, any, either, among, but}
 use Rattle.mp_cursor.specs.Parsers.{Parser, ◌>>=◌, next_token, branch}
 use Rattle.mp_cursor.specs.Parsers as parser
 use Rattle.mp_cursor.specs.Leaves.{signs}
+use Rattle.mp_cursor.specs.LeafTokens.{constant_begins}
 use Rattle.mp_cursor.proofs.NextSets.{apart_is, within_any}
 use Rattle.mp_cursor.proofs.Recovery.{no_else, ends_token}
-use Rattle.mp_cursor.proofs.Laws.{Law, Same, law_pure, law_then, law_map, law_followed, law_begun, law_as, law_word, law_symbol, law_ends, symbol_only, next_is}
+use Rattle.mp_cursor.proofs.RuleLaws.{Law, Same, law_pure, law_then, law_map, law_followed, law_begun, law_as, law_word, law_symbol, law_ends, symbol_only, next_is}
 use Rattle.mp_cursor.proofs.SameRules.{same_refl, same_trans, same_sym, same_then, same_or, or_grouped, or_then, gives_first, behind_list}
 use Rattle.mp_cursor.proofs.LeafLaws.{law_identifier, has_room, law_opened_word}
 use Rattle.mp_cursor.proofs.ChoiceLaws.{law_branch, law_optional}
@@ -35,6 +36,7 @@ use Rattle.mp_cursor.proofs.ListLaws.{falls_last, Falls, falls_expect, falls_the
 use Rattle.mp_cursor.proofs.SeriesLaws.{law_series}
 use Rattle.mp_cursor.proofs.ConstantLaws.{law_identifiers, law_sign, law_constant, law_constants}
 use Rattle.mp_parse_type.specs.Types as p
+use Rattle.mp_parse_type.specs.Types.{after_denoter}
 use Rattle.mp_parse_type.proofs.Groupings.{Splits, law_split, regrouped, map_then, between, last_first}
 use Rattle.mp_parse_type.proofs.LastLaws.{law_with_last}
 
@@ -51,11 +53,8 @@ simple_begins = among (next.Identifier ∷ next.Number ∷ next.Text ∷ Symbol 
 
 abbrev pub denoter_begins : Nexts
 denoter_begins =
-    among (next.Identifier ∷ next.Number ∷ next.Text ∷ Symbol s.Plus ∷ Symbol s.Minus ∷ Symbol s.LeftParen ∷ Symbol s.Caret ∷ Word w.Packed ∷ Word w.Array ∷ Word w.Record ∷ Word w.Set ∷ Word w.File ∷ [])
-
--- `..` goes on with a type's name, which is a constant's then
-abbrev pub after_denoter : Nexts
-after_denoter = but (Symbol s.DotDot ∷ [])
+    among (next.Identifier ∷ next.Number ∷ next.Text ∷ Symbol s.Plus ∷ Symbol s.Minus ∷ Symbol s.LeftParen ∷ Symbol s.Caret ∷ Word w.Packed ∷
+    Word w.Array ∷ Word w.Record ∷ Word w.Set ∷ Word w.File ∷ [])
 
 abbrev pub fields_begin : Nexts
 fields_begin = among (next.Identifier ∷ Word w.Case ∷ Word w.End ∷ Symbol s.RightParen ∷ [])
@@ -77,7 +76,7 @@ law_subrange_from : (first : Constant) → Law true (is (Symbol s.DotDot)) any (
 unfolding p.subrange_from
 law_subrange_from first = law_then (law_symbol s.DotDot) refl (λ at. law_map (d.Subrange first) law_constant)
 
-law_subrange : Law true p.constant_begins any p.subrange g.subrange
+law_subrange : Law true constant_begins any p.subrange g.subrange
 unfolding p.subrange
 law_subrange = law_then law_constant refl law_subrange_from
 
@@ -87,7 +86,9 @@ named_type = leaf.identifier >>=ʳ (λ name. subrange_from (c.Name None name) <|
 
 law_named_type : Law true name after_denoter p.named_type named_type
 unfolding p.named_type
-law_named_type = law_then law_identifier refl (λ name. law_branch (is (Symbol s.DotDot)) (law_followed after_denoter refl (law_subrange_from (c.Name None name))) refl refl (law_pure (d.Named name) after_denoter))
+law_named_type =
+    law_then law_identifier refl (λ name. law_branch (is (Symbol s.DotDot)) (law_followed after_denoter refl
+    (law_subrange_from (c.Name None name))) refl refl (law_pure (d.Named name) after_denoter))
 
 abbrev Named : Input → Constant → Input → Type 0
 Named i first m = (name : Identifier) × leaf.identifier i name m × (c.Name None name ≡ first)
@@ -99,11 +100,13 @@ not_name k i at j d e = ap name (next_is k i at j d) ∙ e
 signed_splits : (i : Input) (first : Constant) (m : Input) → leaf.signed_constant i first m → Named i first m ⊎ (name (next_token i) ≡ false)
 signed_splits i first m u = by u.0 u.1 u.2 u.3
   where
-    unsigned : (sign : _) (k : Input) → None ≡ sign → i ≡ k → (c.Number sign <$>ʳ leaf.number <|>ʳ c.Name sign <$>ʳ leaf.identifier) k first m → Named i first m ⊎ (name (next_token i) ≡ false)
+    unsigned : (sign : _) (k : Input) → None ≡ sign → i ≡ k → (c.Number sign <$>ʳ leaf.number <|>ʳ c.Name sign <$>ʳ leaf.identifier) k first m →
+        Named i first m ⊎ (name (next_token i) ≡ false)
     unsigned sign k e f (inl v) = inr (ap (λ l. name (next_token l)) f ∙ not_name (kind.Number v.0.value) k v.0.at v.1 v.2 refl)
     unsigned sign k e f (inr v) = inl (v.0, subst (λ l. leaf.identifier i v.0 l) v.3.1 (subst (λ l. leaf.identifier l v.0 v.1) (sym f) v.2), ap (λ z. c.Name z v.0) e ∙ v.3.0)
 
-    by : (sign : _) (k : Input) → optional leaf.sign i sign k → (c.Number sign <$>ʳ leaf.number <|>ʳ c.Name sign <$>ʳ leaf.identifier) k first m → Named i first m ⊎ (name (next_token i) ≡ false)
+    by : (sign : _) (k : Input) → optional leaf.sign i sign k → (c.Number sign <$>ʳ leaf.number <|>ʳ c.Name sign <$>ʳ leaf.identifier) k first m →
+        Named i first m ⊎ (name (next_token i) ≡ false)
     by sign k (inl v) b = inr (apart_is signs name refl (next_token i) (law_sign.begins i v.0 v.1 v.2 refl))
     by sign k (inr v) b = unsigned sign k v.0 v.1 b
 
@@ -114,7 +117,8 @@ constant_splits i first m (inr u) = inr (not_name (kind.Text u.0.characters) i u
 simple_splits : Splits name named_type (g.enumeration <|>ʳ g.subrange) g.simple_type
 simple_splits = record { to = to; first = λ i x j d. first i x j d.0 d.1 d.2 d.3; second = λ i x j d. inr d }
   where
-    subrange : (i : Input) (x : Denoter) (j : Input) (first : Constant) (m : Input) → leaf.constant i first m → subrange_from first m x j → Named i first m ⊎ (name (next_token i) ≡ false) → named_type i x j ⊎ ((name (next_token i) ≡ false) × (g.enumeration <|>ʳ g.subrange) i x j)
+    subrange : (i : Input) (x : Denoter) (j : Input) (first : Constant) (m : Input) → leaf.constant i first m → subrange_from first m x j →
+        Named i first m ⊎ (name (next_token i) ≡ false) → named_type i x j ⊎ ((name (next_token i) ≡ false) × (g.enumeration <|>ʳ g.subrange) i x j)
     subrange i x j first m k v (inl n) = inl (n.0, m, n.1, inl (subst (λ z. subrange_from z m x j) (sym n.2) v))
     subrange i x j first m k v (inr e) = inr (e, inr (first, m, k, v))
 
@@ -123,14 +127,16 @@ simple_splits = record { to = to; first = λ i x j d. first i x j d.0 d.1 d.2 d.
     to i x j (inr (inl u)) = inr (not_name (kind.Symbol s.LeftParen) i u.0 u.1 u.2 refl, inl u)
     to i x j (inr (inr u)) = subrange i x j u.0 u.1 u.2 u.3 (constant_splits i u.0 u.1 u.2)
 
-    first : (i : Input) (x : Denoter) (j : Input) (n : Identifier) (m : Input) → leaf.identifier i n m → (subrange_from (c.Name None n) <|>ʳ gives (d.Named n)) m x j → g.simple_type i x j
+    first : (i : Input) (x : Denoter) (j : Input) (n : Identifier) (m : Input) → leaf.identifier i n m →
+        (subrange_from (c.Name None n) <|>ʳ gives (d.Named n)) m x j → g.simple_type i x j
     first i x j n m k (inl v) = inr (inr (c.Name None n, m, inl (None, i, inr (refl, refl), inr (n, m, k, (refl, refl))), v))
     first i x j n m k (inr v) = inl (n, m, k, v)
 
 law_simple_type : Law true simple_begins after_denoter p.simple_type g.simple_type
 unfolding p.simple_type
 law_simple_type = law_begun simple_begins refl
-    (law_split name law_named_type refl (law_branch (is (Symbol s.LeftParen)) (law_followed after_denoter refl law_enumeration) refl refl (law_followed after_denoter refl law_subrange)) simple_splits)
+    (law_split name law_named_type refl (law_branch (is (Symbol s.LeftParen)) (law_followed after_denoter refl law_enumeration) refl refl
+    (law_followed after_denoter refl law_subrange)) simple_splits)
 
 law_pointer_type : Law true (is (Symbol s.Caret)) any p.pointer_type g.pointer_type
 unfolding p.pointer_type
@@ -164,7 +170,7 @@ abbrev variants : Rule Denoter → Rule (List (Variant Denoter))
 variants fields = rule.separated (symbol s.Semicolon) (g.variant fields) >>=ʳ (λ found. optional (symbol s.Semicolon) >>ʳ gives found)
 
 module _ {q : Parser Denoter} {r : Rule Denoter} (fields : Law true fields_begin after_fields q r) where
-  law_variant : Law true p.constant_begins any (p.variant q) (g.variant r)
+  law_variant : Law true constant_begins any (p.variant q) (g.variant r)
   unfolding p.variant
   law_variant =
       law_then law_constants refl (λ constants.
@@ -173,9 +179,9 @@ module _ {q : Parser Denoter} {r : Rule Denoter} (fields : Law true fields_begin
       law_then fields refl (λ found.
       law_then (law_symbol s.RightParen) refl (λ closing. law_pure _ any)))))
 
-  law_variants : Law true p.constant_begins after_fields (p.variants q) (variants r)
+  law_variants : Law true constant_begins after_fields (p.variants q) (variants r)
   unfolding p.variants p.further_variant
-  law_variants = law_series (kind.Symbol s.Semicolon) (symbol_only s.Semicolon) p.constant_begins after_fields law_variant refl refl refl refl refl
+  law_variants = law_series (kind.Symbol s.Semicolon) (symbol_only s.Semicolon) constant_begins after_fields law_variant refl refl refl refl refl
 
 -- the name of a tag field, where there is one, and the type of the tag
 abbrev tag : Rule (Option Identifier × Identifier)
@@ -183,7 +189,9 @@ tag = leaf.identifier >>=ʳ (λ name. (symbol s.Colon >>ʳ (λ of. (Some name, o
 
 law_tag : Law true name (is (Word w.Of)) p.tag tag
 unfolding p.tag
-law_tag = law_then law_identifier refl (λ name. law_branch (is (Symbol s.Colon)) (law_followed (is (Word w.Of)) refl (law_then (law_symbol s.Colon) refl (λ at. law_map _ law_identifier))) refl refl (law_pure (None, name) (is (Word w.Of))))
+law_tag =
+    law_then law_identifier refl (λ name. law_branch (is (Symbol s.Colon)) (law_followed (is (Word w.Of)) refl
+    (law_then (law_symbol s.Colon) refl (λ at. law_map _ law_identifier))) refl refl (law_pure (None, name) (is (Word w.Of))))
 
 abbrev tag_of : Rule (Option Identifier × Identifier)
 tag_of = optional g.tag_field >>=ʳ (λ tag. leaf.identifier >>=ʳ (λ of. gives (tag, of)))
@@ -194,15 +202,30 @@ Tag = Option Identifier × Identifier
 tag_same : Same tag tag_of
 tag_same = record { to = λ i x j t. to i x j t.0 t.1 t.2 t.3; back = λ i x j t. back i x j t.0 t.1 t.2 t.3 }
   where
-    to : (i : Input) (x : Tag) (j : Input) (n : Identifier) (m : Input) → leaf.identifier i n m → ((symbol s.Colon >>ʳ (λ of. (Some n, of)) <$>ʳ leaf.identifier) <|>ʳ gives (None, n)) m x j → tag_of i x j
+    to : (i : Input) (x : Tag) (j : Input) (n : Identifier) (m : Input) → leaf.identifier i n m →
+        ((symbol s.Colon >>ʳ (λ of. (Some n, of)) <$>ʳ leaf.identifier) <|>ʳ gives (None, n)) m x j → tag_of i x j
     to i x j n m k (inl v) = (Some n, v.1, inl (n, v.1, (n, m, k, (v.0, v.1, v.2, (refl, refl))), (refl, refl)), v.3)
     to i x j n m k (inr v) = (None, i, inr (refl, refl), (n, m, k, v))
 
     back : (i : Input) (x : Tag) (j : Input) (t : Option Identifier) (m : Input) → optional g.tag_field i t m → (leaf.identifier >>=ʳ (λ of. gives (t, of))) m x j → tag i x j
     back i x j t m (inl u) v =
         let f = u.2 in
-        let e = f.3 in
-        (f.0, f.1, f.2, inl (e.0, e.1, e.2, (v.0, v.1, subst (λ l. leaf.identifier l v.0 v.1) (sym (e.3.1 ∙ u.3.1)) v.2, (ap (λ z. (z, v.0)) (ap Some e.3.0 ∙ u.3.0) ∙ v.3.0, v.3.1))))
+        let e = f.3 in (
+          f.0,
+          f.1,
+          f.2,
+          inl (
+            e.0,
+            e.1,
+            e.2,
+            (
+              v.0,
+              v.1,
+              subst (λ l. leaf.identifier l v.0 v.1) (sym (e.3.1 ∙ u.3.1)) v.2,
+              (ap (λ z. (z, v.0)) (ap Some e.3.0 ∙ u.3.0) ∙ v.3.0, v.3.1),
+            ),
+          ),
+        )
     back i x j t m (inr u) v = (v.0, v.1, subst (λ l. leaf.identifier l v.0 v.1) (sym u.1) v.2, inr (ap (λ z. (z, v.0)) u.0 ∙ v.3.0, v.3.1))
 
 -- the laws of what stands behind one more opener
@@ -223,7 +246,9 @@ module _ (room : ℕ) (q : p.Deeper) (r : g.Deeper) (behind : (n : ℕ) → room
   finishes (Some packed) = true
 
   -- the word of a structure, and what stands behind it
-  law_structured : {f h : Nexts} {t : ℕ → Parser Denoter} {u : ℕ → Rule Denoter} (packed : Option ℕ) (v : WordSymbol) → no_else (kind.Word v) ≡ true → Opened packed → (BehindLaws q r → (at : ℕ) → Law true f h (t at) (u at)) → Law (finishes packed) (is (Word v)) h (p.structure_word room q packed v >>= t) (g.structure_word room r packed v >>=ʳ u)
+  law_structured : {f h : Nexts} {t : ℕ → Parser Denoter} {u : ℕ → Rule Denoter} (packed : Option ℕ) (v : WordSymbol) → no_else (kind.Word v) ≡ true →
+      Opened packed → (BehindLaws q r → (at : ℕ) → Law true f h (t at) (u at)) → Law (finishes packed) (is (Word v)) h
+      (p.structure_word room q packed v >>= t) (g.structure_word room r packed v >>=ʳ u)
   unfolding p.structure_word
   law_structured None v other opened a = law_opened_word v other room (λ n e at. a (opened n e) at)
   law_structured {f = f} (Some packed) v other opened a = law_then (law_ends (λ granted. ends_token (kind.Word v) other) (law_word v)) (within_any f) (λ at. a opened at)
@@ -288,7 +313,8 @@ module _ (room : ℕ) (q : p.Deeper) (r : g.Deeper) (behind : (n : ℕ) → room
   behind_tag at tag = word w.Of >>ʳ (variants r.field_list >>=ʳ (λ found. gives (a_part at tag found)))
 
   -- the variants, behind the tag
-  variants_same : (at : ℕ) (tag : Tag) → Same (behind_tag at tag) ((word w.Of >>ʳ (rule.separated (symbol s.Semicolon) (g.variant r.field_list) >>=ʳ (λ found. gives (a_part at tag found)))) >>=ʳ and_semicolon)
+  variants_same : (at : ℕ) (tag : Tag) → Same (behind_tag at tag) ((word w.Of >>ʳ (rule.separated (symbol s.Semicolon) (g.variant r.field_list) >>=ʳ
+      (λ found. gives (a_part at tag found)))) >>=ʳ and_semicolon)
   variants_same at tag = same_trans
       (same_then (same_refl (word w.Of)) (λ of. behind_list _ (optional (symbol s.Semicolon)) (λ found. gives (a_part at tag found))))
       (same_sym (regrouped (λ of. regrouped (λ found. gives_first (a_part at tag found) and_semicolon))))
@@ -344,7 +370,27 @@ module _ (room : ℕ) (q : p.Deeper) (r : g.Deeper) (behind : (n : ℕ) → room
       back : (i : Input) (x : part) (j : Input) (y : part) (m : Input) → optional (symbol s.Semicolon >>ʳ g.variant_part room r) i y m → and_semicolon y m x j → ending i x j
       back i x j y m (inl u) v =
           let k = u.2 in
-          inl (k.0, k.1, k.2, inl (u.0, v.1, (u.0, u.1, k.3, (v.0, v.1, subst (λ l. optional (symbol s.Semicolon) l v.0 v.1) (sym u.3.1) v.2, (refl, refl))), (u.3.0 ∙ v.3.0, v.3.1)))
+          inl (
+            k.0,
+            k.1,
+            k.2,
+            inl (
+              u.0,
+              v.1,
+              (
+                u.0,
+                u.1,
+                k.3,
+                (
+                  v.0,
+                  v.1,
+                  subst (λ l. optional (symbol s.Semicolon) l v.0 v.1) (sym u.3.1) v.2,
+                  (refl, refl),
+                ),
+              ),
+              (u.3.0 ∙ v.3.0, v.3.1),
+            ),
+          )
       back i x j y m (inr u) v = back_none i x j v.0 v.1 (subst (λ l. optional (symbol s.Semicolon) l v.0 v.1) (sym u.1) v.2) (u.0 ∙ v.3.0) v.3.1
 
   abbrev one_section : Rule (Section Denoter)
@@ -353,10 +399,12 @@ module _ (room : ℕ) (q : p.Deeper) (r : g.Deeper) (behind : (n : ℕ) → room
   abbrev more_sections : Rule (List (Section Denoter))
   more_sections = many (symbol s.Semicolon >>ʳ one_section)
 
-  law_fixed_fields : Law true name after_fields (p.fixed_fields room q) (one_section >>=ʳ (λ first. more_sections >>=ʳ (λ more. ending >>=ʳ (λ part. gives (d.Fields (first ∷ more) part)))))
+  law_fixed_fields : Law true name after_fields (p.fixed_fields room q) (one_section >>=ʳ (λ first.
+      more_sections >>=ʳ (λ more. ending >>=ʳ (λ part. gives (d.Fields (first ∷ more) part)))))
   unfolding p.fixed_fields p.further_section
   law_fixed_fields = law_then (law_section_of law_denoter_with) refl (λ first.
-      law_with_last (kind.Symbol s.Semicolon) (symbol_only s.Semicolon) name after_fields d.Fields None (law_section_of law_denoter_with) law_optional_part refl refl refl refl refl (first ∷ []))
+      law_with_last (kind.Symbol s.Semicolon) (symbol_only s.Semicolon) name after_fields d.Fields None
+      (law_section_of law_denoter_with) law_optional_part refl refl refl refl refl (first ∷ []))
 
   -- a variant part behind a `;`, where there is one
   abbrev semicolon_part : Rule part
@@ -370,7 +418,8 @@ module _ (room : ℕ) (q : p.Deeper) (r : g.Deeper) (behind : (n : ℕ) → room
       (same_then ending_same (λ part. same_refl (gives (d.Fields fixed part))))
       (regrouped (λ part. between (optional (symbol s.Semicolon)) part (λ part. gives (d.Fields fixed part))))
 
-  fixed_same : Same (one_section >>=ʳ (λ first. more_sections >>=ʳ (λ more. ending >>=ʳ (λ part. gives (d.Fields (first ∷ more) part))))) (g.fixed_fields room r >>=ʳ and_semicolon)
+  fixed_same : Same (one_section >>=ʳ (λ first. more_sections >>=ʳ (λ more. ending >>=ʳ (λ part. gives (d.Fields (first ∷ more) part)))))
+      (g.fixed_fields room r >>=ʳ and_semicolon)
   fixed_same = same_trans
       (same_then (same_refl one_section) (λ first. same_then (same_refl more_sections) (λ more. sections_same (first ∷ more))))
       (same_sym (same_trans
@@ -392,11 +441,14 @@ module _ (room : ℕ) (q : p.Deeper) (r : g.Deeper) (behind : (n : ℕ) → room
       (gives_first None (λ part. gives (no_sections part))))
 
   fields_same : Same ((g.fixed_fields room r >>=ʳ and_semicolon) <|>ʳ ((g.variant_fields room r >>=ʳ and_semicolon) <|>ʳ gives (d.Fields [] None))) (g.field_list_with room r)
-  fields_same = same_trans (same_sym (or_grouped _ _ _)) (same_or (same_sym (or_then (g.fixed_fields room r) (g.variant_fields room r) and_semicolon)) (same_refl (gives (d.Fields [] None))))
+  fields_same =
+      same_trans (same_sym (or_grouped _ _ _)) (same_or (same_sym (or_then (g.fixed_fields room r) (g.variant_fields room r) and_semicolon))
+      (same_refl (gives (d.Fields [] None))))
 
   law_field_list_with : Law true fields_begin after_fields (p.field_list_with room q) (g.field_list_with room r)
   unfolding p.field_list_with
-  law_field_list_with = law_begun fields_begin refl (law_as fields_same (law_branch name (law_as fixed_same law_fixed_fields) refl refl (law_as last_same (law_map no_sections law_optional_part))))
+  law_field_list_with =
+      law_begun fields_begin refl (law_as fields_same (law_branch name (law_as fixed_same law_fixed_fields) refl refl (law_as last_same (law_map no_sections law_optional_part))))
 
 -- ---- the parsers, where so many more openers may stand open
 
@@ -421,4 +473,6 @@ law_section room = law_section_of (law_denoter room)
 
 pub falls_section : (room : ℕ) → Falls (p.section (p.denoter room))
 unfolding p.section
-falls_section room = falls_last law_identifiers (λ names. falls_then (falls_expect (kind.Symbol s.Colon) (symbol_only s.Colon)) (λ at. law_then (law_denoter room) refl (λ of. law_pure (a_section names of) after_denoter)))
+falls_section room =
+    falls_last law_identifiers (λ names. falls_then (falls_expect (kind.Symbol s.Colon) (symbol_only s.Colon))
+    (λ at. law_then (law_denoter room) refl (λ of. law_pure (a_section names of) after_denoter)))

@@ -1,4 +1,5 @@
--- Parsers of headings of procedures and functions.
+-- Parsers of headings of procedures and functions, which no statement about programs cites: `laws` says by the grammar
+-- what they read.
 use Rattle.std.specs.Prelude.{ℕ, zero, suc, List, [], ◌∷◌, Option}
 use Rattle.mp_ast.specs.declared.words.WordSymbol.TheVariants as w
 use Rattle.mp_ast.specs.declared.symbols.Symbol.TheVariants as s
@@ -8,7 +9,7 @@ use Rattle.mp_ast.specs.declared.headings.FormalSection.TheVariants as f
 use Rattle.mp_ast.specs.declared.headings.HeadingKind.TheVariants as kind
 use Rattle.mp_ast.specs.declared.headings.HeadingTree.{HeadingTree}
 use Rattle.mp_cursor.specs.declared.next.Next.TheVariants.{Word, Symbol}
-use Rattle.mp_cursor.specs.Nexts.{is}
+use Rattle.mp_cursor.specs.Nexts.{Nexts, is, but}
 use Rattle.mp_cursor.specs.Parsers.{Parser, ◌>>=◌, ◌>>◌, ◌<$>◌, pure, refuse, branch, expect, opening, identifier, repeated, and_one, optional}
 use Rattle.mp_cursor.specs.Leaves.{identifiers}
 
@@ -101,3 +102,9 @@ function_heading room = do
 
 unfoldable pub heading : ℕ → Parser HeadingTree
 heading room = branch (is (Word w.Procedure)) (procedure_heading room) (function_heading room)
+
+-- ---- what may follow
+
+-- the tokens that may follow a heading: a parenthesis, or a colon, goes on with one
+abbrev pub after_heading : Nexts
+after_heading = but (Symbol s.LeftParen ∷ Symbol s.Colon ∷ [])

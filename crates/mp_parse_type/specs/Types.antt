@@ -1,4 +1,4 @@
--- Parsers of type denoters.
+-- Parsers of type denoters, which no statement about programs cites: `laws` says by the grammar what they read.
 use Rattle.std.specs.Prelude.{◌<◌, ℕ, zero, suc, Bool, true, false, List, [], ◌∷◌, Option, Some, None}
 use Rattle.mp_ast.specs.declared.words.WordSymbol.{WordSymbol}
 use Rattle.mp_ast.specs.declared.words.WordSymbol.TheVariants as w
@@ -15,9 +15,10 @@ use Rattle.mp_ast.specs.declared.types.Denoter.TheVariants as d
 use Rattle.mp_cursor.specs.declared.next.Next.{Next}
 use Rattle.mp_cursor.specs.declared.next.Next.TheVariants as next
 use Rattle.mp_cursor.specs.declared.next.Next.TheVariants.{Word, Symbol}
-use Rattle.mp_cursor.specs.Nexts.{Nexts, is, among}
+use Rattle.mp_cursor.specs.Nexts.{Nexts, is, among, but}
 use Rattle.mp_cursor.specs.Parsers.{Parser, ◌>>=◌, ◌>>◌, ◌<$>◌, pure, refuse, branch, expect, opening, identifier, repeated, repeated_series, and_one, left, optional}
 use Rattle.mp_cursor.specs.Leaves.{identifiers, constant, constants}
+use Rattle.mp_cursor.specs.LeafTokens.{constant_begins}
 
 -- ---- lists that end with something else
 
@@ -93,10 +94,6 @@ variant fields = do
   found ← fields
   expect (Symbol s.RightParen)
   pure (record { constants = constants; fields = found })
-
--- the tokens that a constant begins with
-abbrev pub constant_begins : Nexts
-constant_begins = among (next.Identifier ∷ next.Number ∷ next.Text ∷ Symbol s.Plus ∷ Symbol s.Minus ∷ [])
 
 unfoldable pub further_variant : Parser Denoter → List (Variant Denoter) → Parser (List (Variant Denoter))
 further_variant fields = and_one (variant fields)
@@ -174,7 +171,8 @@ module _ (room : ℕ) (behind : Deeper) where
     d.File (first_of packed at) at <$> behind.denoter
 
   unfoldable pub structure : Option ℕ → Parser Denoter
-  structure packed = branch (is (Word w.Array)) (array_type packed) (branch (is (Word w.Record)) (record_type packed) (branch (is (Word w.Set)) (set_type packed) (file_type packed)))
+  structure packed =
+      branch (is (Word w.Array)) (array_type packed) (branch (is (Word w.Record)) (record_type packed) (branch (is (Word w.Set)) (set_type packed) (file_type packed)))
 
   unfoldable pub packed_structure : Parser Denoter
   packed_structure = do
@@ -225,3 +223,9 @@ denoter room = denoter_with room (behind room)
 
 abbrev pub field_list : ℕ → Parser Denoter
 field_list room = field_list_with room (behind room)
+
+-- ---- what may follow
+
+-- the tokens that may follow a type denoter: `..` goes on with a type's name, which is a constant's then
+abbrev pub after_denoter : Nexts
+after_denoter = but (Symbol s.DotDot ∷ [])

@@ -6,7 +6,7 @@ ghost use Rattle.mp_parse_type.specs.Types.{behind, HasOpened};
 use mp_ast::{
     Constant, Denoter, Identifier, Index, Section, Symbol, Variant, VariantPart, WordSymbol,
 };
-use mp_cursor::{Cursor, Failure, Next, constant, constants, identifiers, single};
+use mp_cursor::{Cursor, Failure, Next, begins_constant, constant, constants, identifiers, single};
 use sqlite_items::{Boxed, Items};
 use std::alloc::Global;
 
@@ -288,15 +288,6 @@ fn variant(alloc: Global, tokens: &mut Cursor<'_>, room: usize) -> Result<Varian
     let fields = Boxed::new(alloc, field_list(alloc, tokens, room)?)?;
     tokens.expect(Next::Symbol(Symbol::RightParen))?;
     Ok(Variant { constants, fields })
-}
-
-fn begins_constant(next: Next) -> bool
-    ensures { result ≡ spec.constant_begins next }
-{
-    matches!(
-        next,
-        Next::Identifier | Next::Number | Next::Text | Next::Symbol(Symbol::Plus | Symbol::Minus)
-    )
 }
 
 #[cycle(denoters)]

@@ -27,4 +27,6 @@ abbrev pub decreases-block : goal.decreases-block
 decreases-block l = 8 * l.depth + 6
 
 abbrev pub invariant-declarations-declarations : goal.invariant-declarations-declarations
-invariant-declarations-declarations l = declarations standard l.depth (nested_block standard l.depth) l.fn.tokens ≡ loop declaring (further_declaration standard l.depth (nested_block standard l.depth)) (l._turn-end - l._turn) l.found l.tokens
+invariant-declarations-declarations l =
+    declarations standard l.depth (nested_block standard l.depth) l.fn.tokens ≡ loop declaring
+    (further_declaration standard l.depth (nested_block standard l.depth)) (l._turn-end - l._turn) l.found l.tokens

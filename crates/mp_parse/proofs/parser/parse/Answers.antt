@@ -5,13 +5,15 @@ use Rattle.mp_cursor.specs.Parsers.{left}
 use Rattle.mp_parse.specs.Errors.{NamesFirstError, error_of, first_error, told}
 use Rattle.mp_parse.proofs.ProgramLemmas.{only_memory, no_rest, same_tree, is_derived}
 use Rattle.mp_parse.proofs.ErrorLemmas.{same_count}
-use Rattle.mp_parse.proofs.FirstErrorLemmas.{names_error, rest_is_error, told_by, ends_early_where, follows_where, too_many_where, too_deep_where, wrong_where}
+use Rattle.mp_parse.proofs.FirstErrorLemmas.{names_error, rest_is_error, told_by, code_where}
 use Rattle.mp_ast.specs.FirstError.{IsFirstError}
 use Rattle.mp_parse.proofs.FoundLemmas.{stop_found, rest_found, none_found}
 use Rattle.mp_parse.proofs.parser.parse.Goals as goal
 
 pub returns-in-Err-clause-only : goal.returns-in-Err-clause-only
-returns-in-Err-clause-only c = λ t d. c.error_of.ensures ∙ ap (λ e. error_of e (length c.get-tokens.result.now)) (only_memory standard _ _ t (λ n. rw (← c.get-tokens.ensures, ← c.new-cursor.ensures) (c.in-Err.ensures n)) d)
+returns-in-Err-clause-only c =
+    λ t d. c.error_of.ensures ∙ ap (λ e. error_of e (length c.get-tokens.result.now)) (only_memory standard _ _ t
+    (λ n. rw (← c.get-tokens.ensures, ← c.new-cursor.ensures) (c.in-Err.ensures n)) d)
 
 pub returns-in-Err-clause-error : goal.returns-in-Err-clause-error
 returns-in-Err-clause-error c =
@@ -21,7 +23,9 @@ returns-in-Err-clause-error c =
 
 pub returns-then-left-gt0-clause-only : goal.returns-then-left-gt0-clause-only
 unfolding left
-returns-then-left-gt0-clause-only c = λ t d. absurd (no_rest standard _ c.in-Ok.found t c.program.new.tokens (rw (← c.get-tokens.ensures, ← c.new-cursor.ensures) c.in-Ok.ensures) (let l = c.left-left.ensures in let h = c.if-left-gt0.true in omega arith) d)
+returns-then-left-gt0-clause-only c =
+    λ t d. absurd (no_rest standard _ c.in-Ok.found t c.program.new.tokens (rw (← c.get-tokens.ensures, ← c.new-cursor.ensures) c.in-Ok.ensures)
+    (let l = c.left-left.ensures in let h = c.if-left-gt0.true in omega arith) d)
 
 pub returns-then-left-gt0-clause-error : goal.returns-then-left-gt0-clause-error
 unfolding left
@@ -36,7 +40,9 @@ returns-then-left-gt0-clause-error c =
 
 pub returns-clause-tree : goal.returns-clause-tree
 unfolding left
-returns-clause-tree c = is_derived standard _ c.in-Ok.found c.program.new.tokens (rw (← c.get-tokens.ensures, ← c.new-cursor.ensures) c.in-Ok.ensures) (let l = c.left-left.ensures in let h = c.if-left-gt0.false in omega arith)
+returns-clause-tree c =
+    is_derived standard _ c.in-Ok.found c.program.new.tokens (rw (← c.get-tokens.ensures, ← c.new-cursor.ensures) c.in-Ok.ensures)
+    (let l = c.left-left.ensures in let h = c.if-left-gt0.false in omega arith)
 
 pub returns-clause-only : goal.returns-clause-only
 returns-clause-only c = λ t d. same_tree standard _ c.in-Ok.found t c.program.new.tokens (rw (← c.get-tokens.ensures, ← c.new-cursor.ensures) c.in-Ok.ensures) d
@@ -62,89 +68,24 @@ returns-then-left-gt0-clause-found c =
 
 pub returns-clause-found : goal.returns-clause-found
 unfolding left
-returns-clause-found c = none_found _ c.in-Ok.found c.program.new.tokens (rw (← c.get-tokens.ensures, ← c.new-cursor.ensures) c.in-Ok.ensures) (let l = c.left-left.ensures in let h = c.if-left-gt0.false in omega arith)
+returns-clause-found c =
+    none_found _ c.in-Ok.found c.program.new.tokens (rw (← c.get-tokens.ensures, ← c.new-cursor.ensures) c.in-Ok.ensures)
+    (let l = c.left-left.ensures in let h = c.if-left-gt0.false in omega arith)
 
-pub returns-in-Err-clause-ends_early : goal.returns-in-Err-clause-ends_early
-returns-in-Err-clause-ends_early c =
+pub returns-in-Err-clause-code : goal.returns-in-Err-clause-code
+returns-in-Err-clause-code c =
     let tokens = c.args.lexed.now.tokens in
     let stop = names_error (kinds_of tokens) c.in-Err.failure (λ n. rw (← c.get-tokens.ensures, ← c.new-cursor.ensures) (c.in-Err.ensures n)) in
-    ends_early_where (kinds_of tokens) c.error_of.result (told_by tokens c.get-tokens.result.now (NamesFirstError (kinds_of tokens)) c.in-Err.failure c.error_of.result c.get-tokens.ensures c.error_of.ensures stop)
+    code_where (kinds_of tokens) c.error_of.result (told_by tokens c.get-tokens.result.now
+    (NamesFirstError (kinds_of tokens)) c.in-Err.failure c.error_of.result c.get-tokens.ensures c.error_of.ensures stop)
 
-pub returns-then-left-gt0-clause-ends_early : goal.returns-then-left-gt0-clause-ends_early
+pub returns-then-left-gt0-clause-code : goal.returns-then-left-gt0-clause-code
 unfolding left
-returns-then-left-gt0-clause-ends_early c =
+returns-then-left-gt0-clause-code c =
     let tokens = c.args.lexed.now.tokens in
     let count = same_count tokens ∙ ap (λ t. length t) (sym c.get-tokens.ensures) in
     let l = c.left-left.ensures in
     let h = c.if-left-gt0.true in
     let s = c.saturating_sub-token.ensures in
-    ends_early_where (kinds_of tokens) (error.Syntax c.saturating_sub-token.result 205) (subst (λ n. IsFirstError standard (kinds_of tokens) n 205) (omega arith)
-    (rest_is_error (kinds_of tokens) c.in-Ok.found c.program.new.tokens (rw (← c.get-tokens.ensures, ← c.new-cursor.ensures) c.in-Ok.ensures) (omega arith)))
-
-pub returns-in-Err-clause-behind : goal.returns-in-Err-clause-behind
-returns-in-Err-clause-behind c =
-    let tokens = c.args.lexed.now.tokens in
-    let stop = names_error (kinds_of tokens) c.in-Err.failure (λ n. rw (← c.get-tokens.ensures, ← c.new-cursor.ensures) (c.in-Err.ensures n)) in
-    follows_where (kinds_of tokens) c.error_of.result (told_by tokens c.get-tokens.result.now (NamesFirstError (kinds_of tokens)) c.in-Err.failure c.error_of.result c.get-tokens.ensures c.error_of.ensures stop)
-
-pub returns-then-left-gt0-clause-behind : goal.returns-then-left-gt0-clause-behind
-unfolding left
-returns-then-left-gt0-clause-behind c =
-    let tokens = c.args.lexed.now.tokens in
-    let count = same_count tokens ∙ ap (λ t. length t) (sym c.get-tokens.ensures) in
-    let l = c.left-left.ensures in
-    let h = c.if-left-gt0.true in
-    let s = c.saturating_sub-token.ensures in
-    follows_where (kinds_of tokens) (error.Syntax c.saturating_sub-token.result 205) (subst (λ n. IsFirstError standard (kinds_of tokens) n 205) (omega arith)
-    (rest_is_error (kinds_of tokens) c.in-Ok.found c.program.new.tokens (rw (← c.get-tokens.ensures, ← c.new-cursor.ensures) c.in-Ok.ensures) (omega arith)))
-
-pub returns-in-Err-clause-too_many : goal.returns-in-Err-clause-too_many
-returns-in-Err-clause-too_many c =
-    let tokens = c.args.lexed.now.tokens in
-    let stop = names_error (kinds_of tokens) c.in-Err.failure (λ n. rw (← c.get-tokens.ensures, ← c.new-cursor.ensures) (c.in-Err.ensures n)) in
-    too_many_where (kinds_of tokens) c.error_of.result (told_by tokens c.get-tokens.result.now (NamesFirstError (kinds_of tokens)) c.in-Err.failure c.error_of.result c.get-tokens.ensures c.error_of.ensures stop)
-
-pub returns-then-left-gt0-clause-too_many : goal.returns-then-left-gt0-clause-too_many
-unfolding left
-returns-then-left-gt0-clause-too_many c =
-    let tokens = c.args.lexed.now.tokens in
-    let count = same_count tokens ∙ ap (λ t. length t) (sym c.get-tokens.ensures) in
-    let l = c.left-left.ensures in
-    let h = c.if-left-gt0.true in
-    let s = c.saturating_sub-token.ensures in
-    too_many_where (kinds_of tokens) (error.Syntax c.saturating_sub-token.result 205) (subst (λ n. IsFirstError standard (kinds_of tokens) n 205) (omega arith)
-    (rest_is_error (kinds_of tokens) c.in-Ok.found c.program.new.tokens (rw (← c.get-tokens.ensures, ← c.new-cursor.ensures) c.in-Ok.ensures) (omega arith)))
-
-pub returns-in-Err-clause-too_deep : goal.returns-in-Err-clause-too_deep
-returns-in-Err-clause-too_deep c =
-    let tokens = c.args.lexed.now.tokens in
-    let stop = names_error (kinds_of tokens) c.in-Err.failure (λ n. rw (← c.get-tokens.ensures, ← c.new-cursor.ensures) (c.in-Err.ensures n)) in
-    too_deep_where (kinds_of tokens) c.error_of.result (told_by tokens c.get-tokens.result.now (NamesFirstError (kinds_of tokens)) c.in-Err.failure c.error_of.result c.get-tokens.ensures c.error_of.ensures stop)
-
-pub returns-then-left-gt0-clause-too_deep : goal.returns-then-left-gt0-clause-too_deep
-unfolding left
-returns-then-left-gt0-clause-too_deep c =
-    let tokens = c.args.lexed.now.tokens in
-    let count = same_count tokens ∙ ap (λ t. length t) (sym c.get-tokens.ensures) in
-    let l = c.left-left.ensures in
-    let h = c.if-left-gt0.true in
-    let s = c.saturating_sub-token.ensures in
-    too_deep_where (kinds_of tokens) (error.Syntax c.saturating_sub-token.result 205) (subst (λ n. IsFirstError standard (kinds_of tokens) n 205) (omega arith)
-    (rest_is_error (kinds_of tokens) c.in-Ok.found c.program.new.tokens (rw (← c.get-tokens.ensures, ← c.new-cursor.ensures) c.in-Ok.ensures) (omega arith)))
-
-pub returns-in-Err-clause-wrong : goal.returns-in-Err-clause-wrong
-returns-in-Err-clause-wrong c =
-    let tokens = c.args.lexed.now.tokens in
-    let stop = names_error (kinds_of tokens) c.in-Err.failure (λ n. rw (← c.get-tokens.ensures, ← c.new-cursor.ensures) (c.in-Err.ensures n)) in
-    wrong_where (kinds_of tokens) c.error_of.result (told_by tokens c.get-tokens.result.now (NamesFirstError (kinds_of tokens)) c.in-Err.failure c.error_of.result c.get-tokens.ensures c.error_of.ensures stop)
-
-pub returns-then-left-gt0-clause-wrong : goal.returns-then-left-gt0-clause-wrong
-unfolding left
-returns-then-left-gt0-clause-wrong c =
-    let tokens = c.args.lexed.now.tokens in
-    let count = same_count tokens ∙ ap (λ t. length t) (sym c.get-tokens.ensures) in
-    let l = c.left-left.ensures in
-    let h = c.if-left-gt0.true in
-    let s = c.saturating_sub-token.ensures in
-    wrong_where (kinds_of tokens) (error.Syntax c.saturating_sub-token.result 205) (subst (λ n. IsFirstError standard (kinds_of tokens) n 205) (omega arith)
+    code_where (kinds_of tokens) (error.Syntax c.saturating_sub-token.result 205) (subst (λ n. IsFirstError standard (kinds_of tokens) n 205) (omega arith)
     (rest_is_error (kinds_of tokens) c.in-Ok.found c.program.new.tokens (rw (← c.get-tokens.ensures, ← c.new-cursor.ensures) c.in-Ok.ensures) (omega arith)))

@@ -4,7 +4,9 @@ use Rattle.mp_cursor.specs.declared.next.Next.TheVariants.{Symbol}
 use Rattle.mp_cursor.specs.Nexts.{is}
 use Rattle.mp_cursor.specs.Parsers.{loop}
 use Rattle.mp_parse_expr.specs.Operators.{adding, multiplying}
-use Rattle.mp_parse_expr.specs.Expressions.{behind, selecting, further_index, further_indices, further_selection, selections, further_actual, further_actuals, further_member, further_members, further_factor, further_factors, further_term, further_terms}
+use Rattle.mp_parse_expr.specs.Expressions.{behind, selecting, further_index, further_indices, further_selection, selections, further_actual}
+use Rattle.mp_parse_expr.specs.Expressions.{further_actuals, further_member, further_members, further_factor, further_factors, further_term}
+use Rattle.mp_parse_expr.specs.Expressions.{further_terms}
 use Rattle.mp_parse_expr.proofs.expressions.+expressions.Given as goal
 
 -- each call has less room, or the same room and a lower rank
@@ -72,19 +74,24 @@ abbrev pub decreases-expression : goal.decreases-expression
 decreases-expression l = 32 * l.room + 16
 
 abbrev pub invariant-further_indices-indices : goal.invariant-further_indices-indices
-invariant-further_indices-indices l = further_indices (l.room) (behind l.room) l.fn.first l.fn.tokens ≡ loop (is (Symbol s.Comma)) (further_index l.room (behind l.room)) (l._turn-end - l._turn) l.found l.tokens
+invariant-further_indices-indices l =
+    further_indices (l.room) (behind l.room) l.fn.first l.fn.tokens ≡ loop (is (Symbol s.Comma)) (further_index l.room (behind l.room)) (l._turn-end - l._turn) l.found l.tokens
 
 abbrev pub invariant-selections-selectors : goal.invariant-selections-selectors
-invariant-selections-selectors l = selections l.room (behind l.room) l.fn.tokens ≡ loop selecting (further_selection l.room (behind l.room)) (l._turn-end - l._turn) l.found l.tokens
+invariant-selections-selectors l =
+    selections l.room (behind l.room) l.fn.tokens ≡ loop selecting (further_selection l.room (behind l.room)) (l._turn-end - l._turn) l.found l.tokens
 
 abbrev pub invariant-further_actuals-actuals : goal.invariant-further_actuals-actuals
-invariant-further_actuals-actuals l = further_actuals l.room (behind l.room) l.fn.first l.fn.tokens ≡ loop (is (Symbol s.Comma)) (further_actual l.room (behind l.room)) (l._turn-end - l._turn) l.found l.tokens
+invariant-further_actuals-actuals l =
+    further_actuals l.room (behind l.room) l.fn.first l.fn.tokens ≡ loop (is (Symbol s.Comma)) (further_actual l.room (behind l.room)) (l._turn-end - l._turn) l.found l.tokens
 
 abbrev pub invariant-further_members-members : goal.invariant-further_members-members
-invariant-further_members-members l = further_members l.room (behind l.room) l.fn.first l.fn.tokens ≡ loop (is (Symbol s.Comma)) (further_member l.room (behind l.room)) (l._turn-end - l._turn) l.found l.tokens
+invariant-further_members-members l =
+    further_members l.room (behind l.room) l.fn.first l.fn.tokens ≡ loop (is (Symbol s.Comma)) (further_member l.room (behind l.room)) (l._turn-end - l._turn) l.found l.tokens
 
 abbrev pub invariant-further_factors-factors : goal.invariant-further_factors-factors
-invariant-further_factors-factors l = further_factors l.room (behind l.room) l.fn.tokens ≡ loop multiplying (further_factor l.room (behind l.room)) (l._turn-end - l._turn) l.found l.tokens
+invariant-further_factors-factors l =
+    further_factors l.room (behind l.room) l.fn.tokens ≡ loop multiplying (further_factor l.room (behind l.room)) (l._turn-end - l._turn) l.found l.tokens
 
 abbrev pub invariant-further_terms-terms : goal.invariant-further_terms-terms
 invariant-further_terms-terms l = further_terms l.room (behind l.room) l.fn.tokens ≡ loop adding (further_term l.room (behind l.room)) (l._turn-end - l._turn) l.found l.tokens

@@ -3,7 +3,8 @@ use Rattle.mp_ast.specs.declared.symbols.Symbol.TheVariants as s
 use Rattle.mp_cursor.specs.declared.next.Next.TheVariants.{Symbol}
 use Rattle.mp_cursor.specs.Nexts.{is}
 use Rattle.mp_cursor.specs.Parsers.{loop, series}
-use Rattle.mp_parse_stmt.specs.Statements.{statement, further_statement, further_statements, arm_begins, further_arm, further_arms}
+use Rattle.mp_cursor.specs.LeafTokens.{constant_begins}
+use Rattle.mp_parse_stmt.specs.Statements.{statement, further_statement, further_statements, further_arm, further_arms}
 use Rattle.mp_parse_stmt.proofs.statements.+statements.Given as goal
 
 -- each call has less room, or the same room and a lower rank
@@ -56,7 +57,9 @@ abbrev pub decreases-statement : goal.decreases-statement
 decreases-statement l = 8 * l.room + 3
 
 abbrev pub invariant-further_statements-statements : goal.invariant-further_statements-statements
-invariant-further_statements-statements l = further_statements (statement l.room) l.fn.first l.fn.tokens ≡ loop (is (Symbol s.Semicolon)) (further_statement (statement l.room)) (l._turn-end - l._turn) l.found l.tokens
+invariant-further_statements-statements l =
+    further_statements (statement l.room) l.fn.first l.fn.tokens ≡ loop (is (Symbol s.Semicolon)) (further_statement (statement l.room)) (l._turn-end - l._turn) l.found l.tokens
 
 abbrev pub invariant-further_arms-arms : goal.invariant-further_arms-arms
-invariant-further_arms-arms l = further_arms (statement l.room) l.fn.first l.fn.tokens ≡ series (Symbol s.Semicolon) arm_begins (further_arm (statement l.room)) (l._turn-end - l._turn) l.found l.tokens
+invariant-further_arms-arms l =
+    further_arms (statement l.room) l.fn.first l.fn.tokens ≡ series (Symbol s.Semicolon) constant_begins (further_arm (statement l.room)) (l._turn-end - l._turn) l.found l.tokens

@@ -29,4 +29,5 @@ abbrev pub decreases-formals : goal.decreases-formals
 decreases-formals l = 32 * l.room + 0
 
 abbrev pub invariant-further_formals-sections : goal.invariant-further_formals-sections
-invariant-further_formals-sections l = further_formals (formals l.room) l.fn.first l.fn.tokens ≡ loop (is (Symbol s.Semicolon)) (further_formal (formals l.room)) (l._turn-end - l._turn) l.found l.tokens
+invariant-further_formals-sections l =
+    further_formals (formals l.room) l.fn.first l.fn.tokens ≡ loop (is (Symbol s.Semicolon)) (further_formal (formals l.room)) (l._turn-end - l._turn) l.found l.tokens

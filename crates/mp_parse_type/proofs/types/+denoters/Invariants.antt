@@ -5,7 +5,8 @@ use Rattle.mp_cursor.specs.declared.next.Next.TheVariants as next
 use Rattle.mp_cursor.specs.declared.next.Next.TheVariants.{Symbol}
 use Rattle.mp_cursor.specs.Nexts.{is}
 use Rattle.mp_cursor.specs.Parsers.{series}
-use Rattle.mp_parse_type.specs.Types.{series_and_last, behind, field_list, constant_begins, further_variant, further_variants, further_section, last_fields, further_fields}
+use Rattle.mp_cursor.specs.LeafTokens.{constant_begins}
+use Rattle.mp_parse_type.specs.Types.{series_and_last, behind, field_list, further_variant, further_variants, further_section, last_fields, further_fields}
 use Rattle.mp_parse_type.proofs.types.+denoters.Given as goal
 
 -- each call has less room, or the same room and a lower rank
@@ -55,7 +56,11 @@ abbrev pub decreases-field_list : goal.decreases-field_list
 decreases-field_list l = 32 * l.room + 8
 
 abbrev pub invariant-further_variants-variants : goal.invariant-further_variants-variants
-invariant-further_variants-variants l = further_variants (field_list l.room) l.fn.first l.fn.tokens ≡ series (Symbol s.Semicolon) constant_begins (further_variant (field_list l.room)) (l._turn-end - l._turn) l.found l.tokens
+invariant-further_variants-variants l =
+    further_variants (field_list l.room) l.fn.first l.fn.tokens ≡ series (Symbol s.Semicolon) constant_begins (further_variant (field_list l.room))
+    (l._turn-end - l._turn) l.found l.tokens
 
 abbrev pub invariant-further_fields-sections : goal.invariant-further_fields-sections
-invariant-further_fields-sections l = further_fields l.room (behind l.room) l.fn.first l.fn.tokens ≡ series_and_last (Symbol s.Semicolon) (is next.Identifier) (further_section l.room (behind l.room)) (last_fields l.room (behind l.room)) (λ found. d.Fields found None) (l._turn-end - l._turn) l.found l.tokens
+invariant-further_fields-sections l =
+    further_fields l.room (behind l.room) l.fn.first l.fn.tokens ≡ series_and_last (Symbol s.Semicolon) (is next.Identifier)
+    (further_section l.room (behind l.room)) (last_fields l.room (behind l.room)) (λ found. d.Fields found None) (l._turn-end - l._turn) l.found l.tokens

@@ -15,7 +15,9 @@ use Rattle.mp_cursor.specs.declared.next.Next.TheVariants as next
 use Rattle.mp_cursor.specs.Nexts.{next_of, class_of, is}
 use Rattle.mp_cursor.specs.Nexts.{Nexts}
 use Rattle.mp_cursor.specs.Parsers.{Outcome, Parser, and_then, ◌>>=◌, ◌<$>◌, pure, refuse, next_token, behind, behind_of, expect, wrong, here, left}
-use Rattle.mp_cursor.proofs.Recovery.{Moves, Recovers, Ends, no_else, failure_is, moves_pure, ends_pure, recovers_pure, moves_then, ends_then, recovers_then, moves_as, ends_as, recovers_as, moves_token, ends_token, recovers_first, moves_here, ends_here}
+use Rattle.mp_cursor.specs.Exactness.{ReadsOnly, ReadsAll, ReadsExactly}
+use Rattle.mp_cursor.proofs.Recovery.{Moves, Recovers, Ends, no_else, failure_is, moves_pure, ends_pure, recovers_pure, moves_then, ends_then}
+use Rattle.mp_cursor.proofs.Recovery.{recovers_then, moves_as, ends_as, recovers_as, moves_token, ends_token, recovers_first, moves_here, ends_here}
 use Rattle.mp_cursor.specs.declared.failure.Failure.{Failure}
 use Rattle.mp_cursor.proofs.Settled.{stopped, place, Settles, settles_pure, settles_then, settles_wrong, settles_expect, settles_here}
 use Rattle.mp_cursor.proofs.NextLemmas.{is_same, is_itself, only_word, only_symbol}
@@ -27,8 +29,8 @@ read x i = Ok (x, i)
 
 -- before such a token, and where such a token follows
 pub record LawWhere {A : Type 0} (P : Type 0) (finishes : Bool) (first follow : Nexts) (p : Parser A) (r : Rule A) : Type 0 where
-  pub sound : (i : Input) (x : A) (j : Input) → p i ≡ read x j → r i x j
-  pub complete : (i : Input) (x : A) (j : Input) → r i x j → follow (next_token j) ≡ true → p i ≡ read x j
+  pub sound : ReadsOnly p r
+  pub complete : ReadsAll follow p r
   pub begins : (i : Input) (x : A) (j : Input) → r i x j → follow (next_token j) ≡ true → first (next_token i) ≡ true
   pub shrinks : (i : Input) (x : A) (j : Input) → p i ≡ read x j → length j.rest ≤ length i.rest
   -- it looks at one token past those that it takes
@@ -43,6 +45,10 @@ pub record LawWhere {A : Type 0} (P : Type 0) (finishes : Bool) (first follow : 
 -- the laws that hold without any condition
 abbrev pub Law : {A : Type 0} → Bool → Nexts → Nexts → Parser A → Rule A → Type 0
 Law b f g p r = LawWhere (Unit {0}) b f g p r
+
+-- what such a law promises outside
+pub exactly : {P A : Type 0} {b : Bool} {f g : Nexts} {p : Parser A} {r : Rule A} → LawWhere P b f g p r → ReadsExactly g p r
+exactly a = record { sound = a.sound; complete = a.complete }
 
 -- where there is a condition
 pub law_where : {A : Type 0} {b : Bool} {f g : Nexts} {p : Parser A} {r : Rule A} (P : Type 0) → Law b f g p r → LawWhere P b f g p r
@@ -83,7 +89,8 @@ law_pure x g = record {
   ends = λ granted e. ends_pure x;
 }
 
-pub law_then : {P A B : Type 0} {b : Bool} {f g fq h : Nexts} {p : Parser A} {r : Rule A} {q : A → Parser B} {s : A → Rule B} → LawWhere P b f g p r → within fq g ≡ true → ((x : A) → LawWhere P true fq h (q x) (s x)) → LawWhere P b f h (p >>= q) (r >>=ʳ s)
+pub law_then : {P A B : Type 0} {b : Bool} {f g fq h : Nexts} {p : Parser A} {r : Rule A} {q : A → Parser B} {s : A → Rule B} → LawWhere P b f g p r →
+    within fq g ≡ true → ((x : A) → LawWhere P true fq h (q x) (s x)) → LawWhere P b f h (p >>= q) (r >>=ʳ s)
 law_then {g = g} {fq = fq} {p = p} {r = r} {q = q} {s = s} a w b = record {
   sound = λ i y j e.
       let o = both_ok (p i) q y j e in
@@ -122,7 +129,9 @@ law_map {f = f} {g = g} {p = p} {r = r} b a = record {
       omega arith;
   settles = settles_then p (λ x. pure (b x)) a.settles (λ x. settles_pure (b x));
   moves = moves_then r (λ x. gives (b x)) a.moves (λ x. moves_pure (b x));
-  recovers = λ granted. recovers_then p (λ x. pure (b x)) r (λ x. gives (b x)) a.sound a.moves (a.recovers granted) (λ x. settles_pure (b x)) (λ x. ends_pure (b x)) (λ x. recovers_pure (b x));
+  recovers =
+      λ granted. recovers_then p (λ x. pure (b x)) r (λ x. gives (b x)) a.sound a.moves (a.recovers granted) (λ x. settles_pure (b x))
+      (λ x. ends_pure (b x)) (λ x. recovers_pure (b x));
   ends = λ granted e. ends_then r (λ x. gives (b x)) (a.ends granted e) (λ x. ends_pure (b x));
 }
 
@@ -203,7 +212,8 @@ next_is k i at j d = ap next_of d.0
 input : ℕ → ℕ → List TokenKind → Input
 input at declared rest = record { at = at; declared = declared; rest = rest }
 
-behind_by : (at at' declared declared' : ℕ) (ks rest : List TokenKind) (k : TokenKind) → ks ≡ k ∷ rest → at' ≡ at + 1 → declared' ≡ declared → behind_of at declared ks ≡ input at' declared' rest
+behind_by : (at at' declared declared' : ℕ) (ks rest : List TokenKind) (k : TokenKind) → ks ≡ k ∷ rest → at' ≡ at + 1 → declared' ≡ declared →
+    behind_of at declared ks ≡ input at' declared' rest
 unfolding input
 behind_by at at' declared declared' ks rest k e f g = ap (behind_of at declared) e ∙ ap (λ n. input n declared rest) (sym f) ∙ ap (λ n. input at' n rest) (sym g)
 
@@ -211,7 +221,9 @@ behind_is : (k : TokenKind) (i : Input) (at : ℕ) (j : Input) → token k i at 
 unfolding behind input
 behind_is k i at j d = behind_by i.at j.at i.declared j.declared i.rest j.rest k d.0 d.2 d.3
 
-class_rest : (at declared : ℕ) (ks : List TokenKind) (k : TokenKind) → ((m : TokenKind) → class_of m ≡ class_of k → m ≡ k) → (next.End ≡ class_of k → ⊥) → next_of ks ≡ class_of k → (ks ≡ k ∷ (behind_of at declared ks).rest) × ((behind_of at declared ks).at ≡ at + 1) × ((behind_of at declared ks).declared ≡ declared)
+class_rest : (at declared : ℕ) (ks : List TokenKind) (k : TokenKind) → ((m : TokenKind) → class_of m ≡ class_of k → m ≡ k) →
+    (next.End ≡ class_of k → ⊥) → next_of ks ≡ class_of k → (ks ≡ k ∷ (behind_of at declared ks).rest) × ((behind_of at declared ks).at ≡ at + 1) ×
+    ((behind_of at declared ks).declared ≡ declared)
 class_rest at declared [] k only some e = absurd (some e)
 class_rest at declared (m ∷ ks) k only some e = (ap (λ x. x ∷ ks) (only m e), refl, refl)
 
