@@ -54,6 +54,21 @@ fn paths_grow_by_a_step(rt: HostRuntime) -> Result<(), Fail> {
     Ok(())
 }
 
+// What a map that has 7 by the path of the second `r` in `q` finds by that of another `r` there.
+fn beside_second(alloc: Global, nth: u32) -> Result<Option<u8>, Fail> {
+    let mut places = HashMap::new(alloc);
+    places.insert(inner(&outer(alloc)?, alloc)?, 7u8)?;
+    let path = outer(alloc)?.child(&Name::new(alloc, b"r")?, nth)?;
+    Ok(places.get(&path).copied())
+}
+
+#[test]
+fn paths_are_keys(rt: HostRuntime) -> Result<(), Fail> {
+    assert_eq!(rt; beside_second(rt.alloc(), 2)?, Some(7));
+    assert_eq!(rt; beside_second(rt.alloc(), 1)?, None);
+    Ok(())
+}
+
 #[test]
 fn lines_are_ended_once(rt: HostRuntime) -> Result<(), Fail> {
     let alloc = rt.alloc();
