@@ -1,4 +1,4 @@
--- Parsers of names, signs and constants.
+-- Parsers of names, signs and constants, which no statement outside names: `laws` says by the grammar what they read.
 use Rattle.std.specs.Prelude.{Option, List, [], ◌∷◌}
 use Rattle.mp_ast.specs.declared.symbols.Symbol.TheVariants as s
 use Rattle.mp_ast.specs.declared.leaves.Identifier.{Identifier}

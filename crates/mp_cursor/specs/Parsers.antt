@@ -1,5 +1,5 @@
--- What a parser of a list of tokens is, and the steps that every parser is made of. A parser looks at one token past
--- those that it takes.
+-- What a parser of a list of tokens is, and the steps that every parser is made of: means, which no statement outside the
+-- parser's crates names. A parser looks at one token past those that it takes.
 use Rattle.std.specs.Prelude.{◌≡◌, ◌≢◌, ℕ, zero, suc, ◌+◌, Bool, true, false, if◌then◌else◌, nat_lt, bytes_eq, List, [], ◌∷◌, ◌++◌, length, Option, Some, None, Result, Ok, Err}
 use Rattle.mp_ast.specs.declared.tokens.TokenKind.{TokenKind}
 use Rattle.mp_ast.specs.declared.tokens.TokenKind.TheVariants as kind

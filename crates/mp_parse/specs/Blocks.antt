@@ -1,4 +1,4 @@
--- Parsers of blocks and programs. Statements outside cite `program` alone, by `first_error`.
+-- Parsers of blocks and programs: of all parsers, statements outside rest on `program` alone, by `first_error`.
 use Rattle.std.specs.Prelude.{ℕ, zero, suc, List, [], ◌∷◌, ◌++◌, Option, Some, None, codes}
 use Rattle.mp_ast.specs.declared.words.WordSymbol.TheVariants as w
 use Rattle.mp_ast.specs.declared.symbols.Symbol.TheVariants as s

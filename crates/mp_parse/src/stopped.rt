@@ -1,4 +1,4 @@
-ghost use Rattle.std.specs.Prelude.{◌≡◌, ◌≢◌, IfErr, MatchResult, Ok, Err};
+ghost use Rattle.std.specs.Prelude.{◌≡◌, ◌≢◌, IfErr, IfOk, Ok, Err};
 ghost use Rattle.mp_cursor.specs.declared.failure.Failure.TheVariants as failure;
 ghost use Rattle.mp_parse.specs.Blocks as spec;
 ghost use Rattle.mp_parse.specs.StoppedParts.{open_begin};
@@ -34,7 +34,8 @@ pub fn read_statement_part(
     alloc: Global,
     tokens: &mut Cursor<'_>,
 ) -> Result<StatementPart, StoppedPart>
-    ensures part { MatchResult result (λ part. spec.statement_part OPENER_LIMIT tokens.old ≡ Ok (part, tokens.new)) (λ stopped. stopped.failure ≢ failure.Memory → spec.statement_part OPENER_LIMIT tokens.old ≡ Err stopped.failure) }
+    ensures part { IfOk result (λ part. spec.statement_part OPENER_LIMIT tokens.old ≡ Ok (part, tokens.new)) }
+    ensures stops { IfErr result (λ stopped. stopped.failure ≢ failure.Memory → spec.statement_part OPENER_LIMIT tokens.old ≡ Err stopped.failure) }
     ensures begin { IfErr result (λ stopped. stopped.begin ≡ open_begin tokens.old) }
 {
     let begin = begin_left(tokens);

@@ -1,4 +1,4 @@
--- Parsers of operators.
+-- Parsers of operators, which no statement outside names.
 use Rattle.std.specs.Prelude.{ℕ, [], ◌∷◌}
 use Rattle.mp_ast.specs.declared.words.WordSymbol.TheVariants as w
 use Rattle.mp_ast.specs.declared.symbols.Symbol.TheVariants as s

@@ -1,4 +1,4 @@
--- Parsers of statements, which no statement about programs cites: `laws` says by the grammar what they read.
+-- Parsers of statements, which no statement outside names: `laws` says by the grammar what they read.
 use Rattle.std.specs.Prelude.{ℕ, zero, suc, List, [], ◌∷◌, Option}
 use Rattle.mp_ast.specs.declared.words.WordSymbol.TheVariants as w
 use Rattle.mp_ast.specs.declared.symbols.Symbol.TheVariants as s

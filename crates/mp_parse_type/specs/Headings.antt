@@ -1,5 +1,5 @@
--- Parsers of headings of procedures and functions, which no statement about programs cites: `laws` says by the grammar
--- what they read.
+-- Parsers of headings of procedures and functions, which no statement outside names: `laws` says by the grammar what
+-- they read.
 use Rattle.std.specs.Prelude.{ℕ, zero, suc, List, [], ◌∷◌, Option}
 use Rattle.mp_ast.specs.declared.words.WordSymbol.TheVariants as w
 use Rattle.mp_ast.specs.declared.symbols.Symbol.TheVariants as s

@@ -1,4 +1,4 @@
--- Parsers of type denoters, which no statement about programs cites: `laws` says by the grammar what they read.
+-- Parsers of type denoters, which no statement outside names: `laws` says by the grammar what they read.
 use Rattle.std.specs.Prelude.{◌<◌, ℕ, zero, suc, Bool, true, false, List, [], ◌∷◌, Option, Some, None}
 use Rattle.mp_ast.specs.declared.words.WordSymbol.{WordSymbol}
 use Rattle.mp_ast.specs.declared.words.WordSymbol.TheVariants as w
