@@ -12,10 +12,10 @@
 
 mod blocks;
 mod errors;
-mod examples;
+pub mod examples;
 mod expressions;
 mod headings;
-mod laws;
+pub mod laws;
 mod leaves;
 mod lexed;
 mod statements;
@@ -29,17 +29,8 @@ pub use blocks::{
     Tree, TypeDefinition,
 };
 pub use errors::{LexError, LexErrors};
-pub use examples::{
-    expression_example, first_error_example, heading_example, program_example, statement_example,
-    type_example,
-};
 pub use expressions::{Access, Actual, Expr, Member, Operation, Operator, Selector, Width};
 pub use headings::{FormalSection, HeadingKind, HeadingTree};
-pub use laws::{
-    blocks_of_an_example, one_block_a_path, plain_expression_forms, plain_forms_tell,
-    plain_heading_forms, plain_statement_forms, plain_tree_forms, plain_type_forms,
-    tokens_of_whole_trees, trees_of_programs_are_whole,
-};
 pub use leaves::{CharacterString, Constant, Identifier, Number, Sign, SignKind};
 pub use lexed::Lexed;
 pub use statements::{Arm, Direction, ForHead, Statement};
