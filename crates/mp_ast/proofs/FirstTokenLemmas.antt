@@ -36,22 +36,29 @@ use Rattle.mp_ast.proofs.PlainStatementLemmas.{plain_statement-Labelled, plain_s
 
 -- ---- a tree by what it is as plain data
 
-pub expr_begins : (x y : Expr) (p : PlainExpr) (at : ℕ) → x ≡ y → plain_expr y ≡ p → first_of_expression p ≡ at → first_of_expression (plain_expr x) ≡ at
+pub expr_begins :
+    (x y : Expr) (p : PlainExpr) (at : ℕ) → x ≡ y → plain_expr y ≡ p → first_of_expression p ≡ at → first_of_expression (plain_expr x) ≡ at
 expr_begins x y p at e f g = ap (λ z. first_of_expression (plain_expr z)) e ∙ ap first_of_expression f ∙ g
 
-pub denoter_begins : (x y : Denoter) (p : PlainDenoter) (at : ℕ) → x ≡ y → plain_denoter y ≡ p → first_of_denoter p ≡ at → first_of_denoter (plain_denoter x) ≡ at
+pub denoter_begins :
+    (x y : Denoter) (p : PlainDenoter) (at : ℕ) → x ≡ y → plain_denoter y ≡ p → first_of_denoter p ≡ at → first_of_denoter (plain_denoter x) ≡ at
 denoter_begins x y p at e f g = ap (λ z. first_of_denoter (plain_denoter z)) e ∙ ap first_of_denoter f ∙ g
 
-pub statement_begins : (x y : Statement) (p : PlainStatement) (at : ℕ) → x ≡ y → plain_statement y ≡ p → first_of_statement p ≡ at → first_of_statement (plain_statement x) ≡ at
+pub statement_begins :
+    (x y : Statement) (p : PlainStatement) (at : ℕ) → x ≡ y → plain_statement y ≡ p → first_of_statement p ≡ at → first_of_statement (plain_statement x) ≡ at
 statement_begins x y p at e f g = ap (λ z. first_of_statement (plain_statement z)) e ∙ ap first_of_statement f ∙ g
 
 -- an `if`, with or without `else`
-pub if_begins : (x : Statement) (at : ℕ) (condition : Expr) (first : Statement) (second : Option Statement) → x ≡ t.If at condition first second → first_of_statement (plain_statement x) ≡ at
+pub if_begins :
+    (x : Statement) (at : ℕ) (condition : Expr) (first : Statement) (second : Option Statement) →
+    x ≡ t.If at condition first second → first_of_statement (plain_statement x) ≡ at
 if_begins x at condition first None e = statement_begins x _ _ at e (plain_statement-If at condition first) refl
 if_begins x at condition first (Some second) e = statement_begins x _ _ at e (plain_statement-IfElse at condition first second) refl
 
 -- a field list, with or without a variant part, has 0
-pub fields_begin : (x : Denoter) (fixed : List (Section Denoter)) (part : Option (VariantPart Denoter)) → x ≡ d.Fields fixed part → first_of_denoter (plain_denoter x) ≡ 0
+pub fields_begin :
+    (x : Denoter) (fixed : List (Section Denoter)) (part : Option (VariantPart Denoter)) →
+    x ≡ d.Fields fixed part → first_of_denoter (plain_denoter x) ≡ 0
 fields_begin x fixed None e = denoter_begins x _ _ 0 e (plain_denoter-Fields fixed) refl
 fields_begin x fixed (Some part) e = denoter_begins x _ _ 0 e (plain_denoter-FieldsWithVariants fixed part) refl
 
@@ -73,7 +80,9 @@ pub product_begins : (first : Expr) (more : List (Operation Expr)) → first_of_
 product_begins first [] = refl
 product_begins first (x ∷ more) = ap first_of_expression (plain_expr-Product first (x ∷ more))
 
-pub sum_begins : (s : Option Sign) (first : Expr) (more : List (Operation Expr)) → first_of_expression (plain_expr (sum s first more)) ≡ signed s (first_of_expression (plain_expr first))
+pub sum_begins :
+    (s : Option Sign) (first : Expr) (more : List (Operation Expr)) →
+    first_of_expression (plain_expr (sum s first more)) ≡ signed s (first_of_expression (plain_expr first))
 sum_begins None first [] = refl
 sum_begins (Some s) first more = ap first_of_expression (plain_expr-Sum (Some s) first more)
 sum_begins None first (x ∷ more) = ap first_of_expression (plain_expr-Sum None first (x ∷ more))

@@ -30,8 +30,12 @@ sign_example room = (
 
 pub not_example : NotExample
 unfolding expressions_behind
-not_example room =
-    (_, factor_alone (suc room) (expressions_behind (suc room)) _ _ _ (past_6 (inl (seq _ _ took (seq _ _ (past_3 (inl (seq _ _ (name_access room _ _ _ _) nothing))) nothing)))), refl)
+not_example room = (
+  _,
+  factor_alone (suc room) (expressions_behind (suc room)) _ _ _
+      (past_6 (inl (seq _ _ took (seq _ _ (past_3 (inl (seq _ _ (name_access room _ _ _ _) nothing))) nothing)))),
+  refl,
+)
 
 pub empty_set_example : EmptySetExample
 empty_set_example room = (_, factor_alone (suc room) (expressions_behind (suc room)) _ _ _ (past_7 (seq _ _ took (seq _ _ (past_1 nothing) (seq _ _ took nothing)))), refl)

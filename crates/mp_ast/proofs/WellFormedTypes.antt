@@ -125,7 +125,8 @@ module _ (room : ℕ) (b : Deeper) (c : DeeperYields b) where
       either
       (next
       (either
-      (next (row {P = GoodSection} (section_yields denoter_yields_with)) (λ fixed v. next (maybe {P = GoodPart} (past (λ semicolon. part_yields))) (λ part w.
+      (next (row {P = GoodSection} (section_yields denoter_yields_with)) (λ fixed v.
+      next (maybe {P = GoodPart} (past (λ semicolon. part_yields))) (λ part w.
       nothing (fields_are fixed part v.1 w))))
       (next part_yields (λ part w. nothing (fields_are [] (Some part) tt w))))
       (λ fields v. past (λ semicolon. nothing v)))

@@ -3,11 +3,13 @@
 //! The crate holds the tokens of a text with their kinds and places, the lexical errors, the 35 word-symbols with
 //! their spellings (ISO 7185, 6.1), and the syntax trees of programs (6.2 to 6.10). Its `specs/` say which tree a list
 //! of tokens has, with which tokens a program begins, and where a list of tokens first goes wrong; what each tree is as
-//! plain data, which blocks a tree has, and where in the text the own tokens of each stand. It is data alone: it never
-//! lexes, parses or prints. It promises how each word-symbol is written, that its lists are lists, and that a block's
-//! own tree has at most 262,144 tokens; and of its definitions, that nothing of a tree is lost in plain data, that each
-//! block has a path of its own, and that each token of a program is an own token of exactly one block. It stands on
-//! `mp_base`.
+//! plain data, which blocks a tree has, where in the text the own tokens of each stand, which token is the first of each
+//! part, and what no program has although a tree's type allows it. It is data alone: it never lexes, parses or prints.
+//! It promises how each word-symbol is written, that its lists are lists, that a block's own tree has at most 262,144
+//! tokens, and which token a part of a tree begins with; and of its definitions (`laws`), that nothing of a tree is lost
+//! in plain data, that each block has a path of its own, that each token of a program is an own token of exactly one
+//! block, that each part of a program begins at its first token, and that each block of a program is well-formed.
+//! `examples` has each production of the grammar once. It stands on `mp_base`.
 #![tactic(auto)]
 
 mod blocks;
