@@ -38,6 +38,15 @@ past_6 p = inr (past_5 p)
 pub past_7 : {A B C D E F G H : Type 0} → H → A ⊎ (B ⊎ (C ⊎ (D ⊎ (E ⊎ (F ⊎ (G ⊎ H))))))
 past_7 p = inr (past_6 p)
 
+pub past_8 : {A B C D E F G H I : Type 0} → I → A ⊎ (B ⊎ (C ⊎ (D ⊎ (E ⊎ (F ⊎ (G ⊎ (H ⊎ I)))))))
+past_8 p = inr (past_7 p)
+
+pub past_9 : {A B C D E F G H I J : Type 0} → J → A ⊎ (B ⊎ (C ⊎ (D ⊎ (E ⊎ (F ⊎ (G ⊎ (H ⊎ (I ⊎ J))))))))
+past_9 p = inr (past_8 p)
+
+pub past_10 : {A B C D E F G H I J K : Type 0} → K → A ⊎ (B ⊎ (C ⊎ (D ⊎ (E ⊎ (F ⊎ (G ⊎ (H ⊎ (I ⊎ (J ⊎ K)))))))))
+past_10 p = inr (past_9 p)
+
 -- a token that stands there is read
 pub took : {k : TokenKind} {at declared : ℕ} {rest : List TokenKind} → token k (record { at = at; declared = declared; rest = k ∷ rest }) at (record { at = at + 1; declared = declared; rest = rest })
 took = (refl, refl, refl, refl)

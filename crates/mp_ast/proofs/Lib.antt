@@ -15,6 +15,13 @@ pub mod CountingStatements
 pub mod CountingTypes
 pub mod CountingHeadings
 pub mod CountingBlocks
+pub mod FirstTokenLemmas
+pub mod Yielding
+pub mod WellFormedExpressions
+pub mod WellFormedStatements
+pub mod WellFormedTypes
+pub mod WellFormedHeadings
+pub mod WellFormedBlocks
 pub mod PathLemmas
 pub mod ExampleLemmas
 pub mod ExpressionExample
@@ -26,3 +33,5 @@ pub mod ProgramExample
 pub mod FirstErrorExamples
 pub mod LimitExamples
 pub mod FollowsExample
+pub mod OperatorExamples
+pub mod ProductionExamples

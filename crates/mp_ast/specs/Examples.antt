@@ -45,79 +45,79 @@ Reads rule kinds tree = (j : Input) × rule (start_of kinds) tree j × (j.rest �
 
 -- ---- tokens, as the lists below write them
 
-abbrev a : List ℕ
+abbrev pub a : List ℕ
 a = codes "a"
 
-abbrev b : List ℕ
+abbrev pub b : List ℕ
 b = codes "b"
 
-abbrev c : List ℕ
+abbrev pub c : List ℕ
 c = codes "c"
 
-abbrev f : List ℕ
+abbrev pub f : List ℕ
 f = codes "f"
 
-abbrev i : List ℕ
+abbrev pub i : List ℕ
 i = codes "i"
 
 abbrev j : List ℕ
 j = codes "j"
 
-abbrev n : List ℕ
+abbrev pub n : List ℕ
 n = codes "n"
 
-abbrev p : List ℕ
+abbrev pub p : List ℕ
 p = codes "p"
 
-abbrev q : List ℕ
+abbrev pub q : List ℕ
 q = codes "q"
 
 abbrev x : List ℕ
 x = codes "x"
 
-abbrev plus : TokenKind
+abbrev pub plus : TokenKind
 plus = Symbol symbols.Plus
 
-abbrev minus : TokenKind
+abbrev pub minus : TokenKind
 minus = Symbol symbols.Minus
 
 abbrev star : TokenKind
 star = Symbol symbols.Star
 
-abbrev equal : TokenKind
+abbrev pub equal : TokenKind
 equal = Symbol symbols.Equal
 
 abbrev less_equal : TokenKind
 less_equal = Symbol symbols.LessEqual
 
-abbrev left_bracket : TokenKind
+abbrev pub left_bracket : TokenKind
 left_bracket = Symbol symbols.LeftBracket
 
-abbrev right_bracket : TokenKind
+abbrev pub right_bracket : TokenKind
 right_bracket = Symbol symbols.RightBracket
 
-abbrev left_paren : TokenKind
+abbrev pub left_paren : TokenKind
 left_paren = Symbol symbols.LeftParen
 
-abbrev right_paren : TokenKind
+abbrev pub right_paren : TokenKind
 right_paren = Symbol symbols.RightParen
 
-abbrev dot : TokenKind
+abbrev pub dot : TokenKind
 dot = Symbol symbols.Dot
 
-abbrev dots : TokenKind
+abbrev pub dots : TokenKind
 dots = Symbol symbols.DotDot
 
-abbrev comma : TokenKind
+abbrev pub comma : TokenKind
 comma = Symbol symbols.Comma
 
-abbrev colon : TokenKind
+abbrev pub colon : TokenKind
 colon = Symbol symbols.Colon
 
-abbrev assign : TokenKind
+abbrev pub assign : TokenKind
 assign = Symbol symbols.Assign
 
-abbrev semicolon : TokenKind
+abbrev pub semicolon : TokenKind
 semicolon = Symbol symbols.Semicolon
 
 abbrev caret : TokenKind
@@ -125,19 +125,19 @@ caret = Symbol symbols.Caret
 
 -- ---- leaves of the trees, each with its ordinal
 
-abbrev named : ℕ → List ℕ → Identifier
+abbrev pub named : ℕ → List ℕ → Identifier
 named at name = record { at = at; name = name }
 
-abbrev digits : ℕ → ℕ → Number
+abbrev pub digits : ℕ → ℕ → Number
 digits at value = record { at = at; value = value }
 
-abbrev variable : ℕ → List ℕ → Expr
+abbrev pub variable : ℕ → List ℕ → Expr
 variable at name = expressions.Access (record { name = named at name; selectors = [] })
 
 abbrev number : ℕ → ℕ → Expr
 number at value = expressions.Number (digits at value)
 
-abbrev constant : ℕ → ℕ → Constant
+abbrev pub constant : ℕ → ℕ → Constant
 constant at value = constants.Number None (digits at value)
 
 -- ---- expressions
@@ -182,7 +182,7 @@ ExpressionExample = (room : ℕ) → Reads (expression (suc room)) expression_to
 
 -- ---- statements
 
-abbrev call : ℕ → List ℕ → Statement
+abbrev pub call : ℕ → List ℕ → Statement
 call at name = statements.Call (named at name) []
 
 -- if a then if b then p else q
@@ -227,7 +227,7 @@ NoElseFollows =
 
 -- ---- types
 
-abbrev type_named : ℕ → List ℕ → Denoter
+abbrev pub type_named : ℕ → List ℕ → Denoter
 type_named at name = denoters.Named (named at name)
 
 -- packed record a, b: array [c, 1 .. 9] of c; case x: c of 1: (f: ^n); 2: (); end

@@ -13,7 +13,10 @@ pub mod PlainStatements
 pub mod PlainTypes
 pub mod PlainHeadings
 pub mod PlainTrees
+pub mod FirstTokens
 pub mod Blocks
 pub mod WholeTrees
+pub mod WellFormed
 pub mod BlocksExample
 pub mod Examples
+pub mod ProductionExamples

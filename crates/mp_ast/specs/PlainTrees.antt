@@ -34,7 +34,7 @@ pub data PlainStatementPart : Type 0 where
 
 -- the statements of a statement part
 abbrev pub statements_of_part : PlainStatementPart → PlainStatements
-statements_of_part (Compound begin statements end) = statements
+statements_of_part (Compound begin found end) = found
 
 pub record PlainBlock : Type 0 where
   pub program : Option ProgramHeading

@@ -1,3 +1,7 @@
+ghost use Rattle.std.specs.Prelude.{◌≡◌};
+ghost use Rattle.mp_ast.specs.PlainExpressions.{plain_expr, plain_access};
+ghost use Rattle.mp_ast.specs.FirstTokens.{first_of_access, first_of_expression};
+
 use crate::leaves::{CharacterString, Identifier, Number, Sign};
 use sqlite_items::{Boxed, Items};
 
@@ -93,4 +97,37 @@ pub enum Expr {
     Sum(Option<Sign>, Boxed<Expr>, Items<Operation<Expr>>),
     /// Two simple expressions with a relation between them.
     Relation(Boxed<Expr>, Boxed<Operation<Expr>>),
+}
+
+impl Access<Expr> {
+    /// The ordinal of its first token, which is the name's.
+    pub fn first_token(&self) -> u32
+        ensures { result ≡ first_of_access (plain_access self.now) }
+    {
+        self.name.at
+    }
+}
+
+impl Expr {
+    /// The ordinal of its first token: a sign's, or that of the leftmost operand.
+    pub fn first_token(&self) -> u32
+        ensures { result ≡ first_of_expression (plain_expr self.now) }
+    {
+        match self {
+            Expr::Number(number) => number.at,
+            Expr::Text(string) => string.at,
+            Expr::Nil(at) => *at,
+            Expr::Access(access) => access.first_token(),
+            Expr::Call(name, _) => name.at,
+            Expr::Inside(at, _) => *at,
+            Expr::Not(at, _) => *at,
+            Expr::Set(at, _) => *at,
+            Expr::Product(first, _) => first.get().first_token(),
+            Expr::Sum(sign, first, _) => match sign {
+                Some(sign) => sign.at,
+                None => first.get().first_token(),
+            },
+            Expr::Relation(left, _) => left.get().first_token(),
+        }
+    }
 }

@@ -1,5 +1,6 @@
 // What the definitions of this crate promise: each function's contract is one law of them.
 ghost use Rattle.std.specs.Prelude.{◌≡◌, ℕ, Bool, List, [], ◌∷◌, Option, Some, None, length, map, codes};
+ghost use Rattle.std.specs.List.{AllByRecursion};
 ghost use Rattle.mp_ast.specs.declared.tokens.TokenKind.{TokenKind};
 ghost use Rattle.mp_ast.specs.declared.leaves.Identifier.{Identifier};
 ghost use Rattle.mp_ast.specs.declared.leaves.Number.{Number};
@@ -25,6 +26,11 @@ ghost use Rattle.mp_ast.specs.declared.headings.FormalSection.{FormalSection};
 ghost use Rattle.mp_ast.specs.declared.headings.FormalSection.TheVariants as formal;
 ghost use Rattle.mp_ast.specs.declared.blocks.Block.{Block};
 ghost use Rattle.mp_ast.specs.declared.blocks.Tree.{Tree, roll-Tree};
+ghost use Rattle.mp_ast.specs.Rules.{Input};
+ghost use Rattle.mp_ast.specs.LeafGrammar as leaf_rule;
+ghost use Rattle.mp_ast.specs.ExpressionGrammar as expression_rule;
+ghost use Rattle.mp_ast.specs.StatementGrammar as statement_rule;
+ghost use Rattle.mp_ast.specs.TypeGrammar as type_rule;
 ghost use Rattle.mp_ast.specs.BlockGrammar.{Limits};
 ghost use Rattle.mp_ast.specs.Programs.{Derives};
 ghost use Rattle.mp_ast.specs.PlainExpressions.{PlainExpr, selectors_of, members_of, operations_of, plain_expr, plain_access, plain_actuals};
@@ -32,8 +38,10 @@ ghost use Rattle.mp_ast.specs.PlainStatements.{PlainStatement, arms_of, plain_he
 ghost use Rattle.mp_ast.specs.PlainTypes.{PlainDenoter, indices_of, variants_of, plain_denoter, plain_sections};
 ghost use Rattle.mp_ast.specs.PlainHeadings.{PlainFormalSection, formals_of, plain_formal_section};
 ghost use Rattle.mp_ast.specs.PlainTrees.{PlainTree, trees_of, plain_block, plain_tree};
+ghost use Rattle.mp_ast.specs.FirstTokens.{first_of_constant, first_of_access, first_of_expression, first_of_denoter, first_of_statement};
 ghost use Rattle.mp_ast.specs.Blocks.{tokens_of, blocks, own_tokens, index_of, token_position, PathsDiffer, EachIsAtItsPath, position};
 ghost use Rattle.mp_ast.specs.WholeTrees.{IsWhole, TokensAddUp, EachTokenHasABlock};
+ghost use Rattle.mp_ast.specs.WellFormed.{IsWellFormed};
 ghost use Rattle.mp_ast.specs.BlocksExample as example;
 ghost use Rattle.mp_ast.specs.BlocksExample.{step, place};
 
@@ -106,6 +114,15 @@ pub fn plain_forms_tell()
     ensures trees { (s t : Tree) → plain_tree s ≡ plain_tree t → s ≡ t }
 {}
 
+/// Each part of a program begins at its first token: what a rule reads begins where its tree says.
+pub fn parts_begin_at_their_first_tokens()
+    ensures constants { (i : Input) (x : Constant) (j : Input) → leaf_rule.constant i x j → first_of_constant x ≡ i.at }
+    ensures accesses { (room : ℕ) (i : Input) (x : Access Expr) (j : Input) → expression_rule.access room i x j → first_of_access (plain_access x) ≡ i.at }
+    ensures expressions { (room : ℕ) (i : Input) (x : Expr) (j : Input) → expression_rule.expression room i x j → first_of_expression (plain_expr x) ≡ i.at }
+    ensures types { (room : ℕ) (i : Input) (x : Denoter) (j : Input) → type_rule.denoter room i x j → first_of_denoter (plain_denoter x) ≡ i.at }
+    ensures statements { (room : ℕ) (i : Input) (x : Statement) (j : Input) → statement_rule.statement room i x j → first_of_statement (plain_statement x) ≡ i.at }
+{}
+
 /// In a tree whose parts fit together, each token of the text is an own token of exactly one block.
 pub fn tokens_of_whole_trees()
     ensures number { (tree : PlainTree) → IsWhole tree → TokensAddUp tree }
@@ -118,6 +135,11 @@ pub fn trees_of_programs_are_whole()
     ensures whole { (limits : Limits) (kinds : List TokenKind) (tree : Tree) → Derives limits kinds tree → IsWhole (plain_tree tree) }
     ensures tokens { (limits : Limits) (kinds : List TokenKind) (tree : Tree) → Derives limits kinds tree → tokens_of (plain_tree tree) ≡ length kinds }
     ensures each { (limits : Limits) (kinds : List TokenKind) (tree : Tree) → Derives limits kinds tree → EachTokenHasABlock (plain_tree tree) }
+{}
+
+/// Each block of a program is well-formed.
+pub fn blocks_of_programs_are_well_formed()
+    ensures { (limits : Limits) (kinds : List TokenKind) (tree : Tree) → Derives limits kinds tree → AllByRecursion (λ block. IsWellFormed block.own) (blocks (plain_tree tree)) }
 {}
 
 /// Each block of a tree has a path of its own, by which it is found.

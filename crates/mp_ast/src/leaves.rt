@@ -1,3 +1,6 @@
+ghost use Rattle.std.specs.Prelude.{◌≡◌};
+ghost use Rattle.mp_ast.specs.FirstTokens.{first_of_constant};
+
 use mp_base::{Bytes, Name};
 
 /// An identifier where it stands (ISO 7185, 6.1.3).
@@ -46,4 +49,18 @@ pub enum Constant {
     Number(Option<Sign>, Number),
     Name(Option<Sign>, Identifier),
     Text(CharacterString),
+}
+
+impl Constant {
+    /// The ordinal of its first token: its sign, where it has one.
+    pub fn first_token(&self) -> u32
+        ensures { result ≡ first_of_constant self.now }
+    {
+        match self {
+            Constant::Number(Some(sign), _) | Constant::Name(Some(sign), _) => sign.at,
+            Constant::Number(None, number) => number.at,
+            Constant::Name(None, name) => name.at,
+            Constant::Text(string) => string.at,
+        }
+    }
 }

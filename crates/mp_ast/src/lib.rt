@@ -3,20 +3,23 @@
 //! The crate holds the tokens of a text with their kinds and places, the lexical errors, the 35 word-symbols with
 //! their spellings (ISO 7185, 6.1), and the syntax trees of programs (6.2 to 6.10). Its `specs/` say which tree a list
 //! of tokens has, with which tokens a program begins, and where a list of tokens first goes wrong; what each tree is as
-//! plain data, which blocks a tree has, and where in the text the own tokens of each stand. It is data alone: it never
-//! lexes, parses or prints. It promises how each word-symbol is written, that its lists are lists, that a block's own
-//! tree has at most 262,144 tokens, and that two own trees, or two parts of one kind, are told to be the same exactly
-//! where they are; and of its definitions, that nothing of a tree is lost in plain data, that each block has a path of
-//! its own, and that each token of a program is an own token of exactly one block. It stands on `mp_base`.
+//! plain data, which blocks a tree has, where in the text the own tokens of each stand, which token is the first of each
+//! part, and what no program has although a tree's type allows it. It is data alone: it never lexes, parses or prints.
+//! It promises how each word-symbol is written, that its lists are lists, that a block's own tree has at most 262,144
+//! tokens, which token a part of a tree begins with, and that two own trees, or two parts of one kind, are told to be
+//! the same exactly where they are; and of its definitions (`laws`), that nothing of a tree is lost in plain data, that
+//! each block has a path of its own, that each token of a program is an own token of exactly one block, that each part
+//! of a program begins at its first token, and that each block of a program is well-formed. `examples` has each
+//! production of the grammar once. It stands on `mp_base`.
 #![tactic(auto)]
 
 mod blocks;
 mod equality;
 mod errors;
-mod examples;
+pub mod examples;
 mod expressions;
 mod headings;
-mod laws;
+pub mod laws;
 mod leaves;
 mod lexed;
 mod statements;
@@ -31,17 +34,8 @@ pub use blocks::{
 };
 pub use equality::Same;
 pub use errors::{LexError, LexErrors};
-pub use examples::{
-    expression_example, first_error_example, heading_example, program_example, statement_example,
-    type_example,
-};
 pub use expressions::{Access, Actual, Expr, Member, Operation, Operator, Selector, Width};
 pub use headings::{FormalSection, HeadingKind, HeadingTree};
-pub use laws::{
-    blocks_of_an_example, one_block_a_path, plain_expression_forms, plain_forms_tell,
-    plain_heading_forms, plain_statement_forms, plain_tree_forms, plain_type_forms,
-    tokens_of_whole_trees, trees_of_programs_are_whole,
-};
 pub use leaves::{CharacterString, Constant, Identifier, Number, Sign, SignKind};
 pub use lexed::Lexed;
 pub use statements::{Arm, Direction, ForHead, Statement};

@@ -1,3 +1,7 @@
+ghost use Rattle.std.specs.Prelude.{◌≡◌};
+ghost use Rattle.mp_ast.specs.PlainStatements.{plain_statement};
+ghost use Rattle.mp_ast.specs.FirstTokens.{first_of_statement};
+
 use crate::expressions::{Access, Actual, Expr};
 use crate::leaves::{Constant, Identifier, Number};
 use sqlite_items::{Boxed, Items};
@@ -54,4 +58,27 @@ pub enum Statement {
     For(u32, Boxed<ForHead>, Boxed<Statement>),
     /// The ordinal of `with`, the records, and the body.
     With(u32, Items<Access<Expr>>, Boxed<Statement>),
+}
+
+impl Statement {
+    /// The ordinal of its first token, which is its label's where it has one; an empty statement stands at the token
+    /// that follows.
+    pub fn first_token(&self) -> u32
+        ensures { result ≡ first_of_statement (plain_statement self.now) }
+    {
+        match self {
+            Statement::Labelled(label, _) => label.at,
+            Statement::Empty(at) => *at,
+            Statement::Assign(variable, _, _) => variable.first_token(),
+            Statement::Call(name, _) => name.at,
+            Statement::Goto(at, _) => *at,
+            Statement::Compound(at, _) => *at,
+            Statement::If(at, _, _, _) => *at,
+            Statement::Case(at, _, _) => *at,
+            Statement::While(at, _, _) => *at,
+            Statement::Repeat(at, _, _) => *at,
+            Statement::For(at, _, _) => *at,
+            Statement::With(at, _, _) => *at,
+        }
+    }
 }

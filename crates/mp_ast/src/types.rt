@@ -1,3 +1,7 @@
+ghost use Rattle.std.specs.Prelude.{◌≡◌};
+ghost use Rattle.mp_ast.specs.PlainTypes.{plain_denoter};
+ghost use Rattle.mp_ast.specs.FirstTokens.{first_of_denoter};
+
 use crate::leaves::{Constant, Identifier};
 use sqlite_items::{Boxed, Items};
 
@@ -55,4 +59,23 @@ pub enum Denoter {
     File(u32, u32, Boxed<Denoter>),
     /// A field list, which stands only in a record and in a variant: the fixed part and the variant part.
     Fields(Items<Section<Denoter>>, Option<VariantPart<Denoter>>),
+}
+
+impl Denoter {
+    /// The ordinal of its first token; 0 for a field list, which is no type.
+    pub fn first_token(&self) -> u32
+        ensures { result ≡ first_of_denoter (plain_denoter self.now) }
+    {
+        match self {
+            Denoter::Named(name) => name.at,
+            Denoter::Enumeration(at, _) => *at,
+            Denoter::Subrange(first, _) => first.first_token(),
+            Denoter::Pointer(at, _) => *at,
+            Denoter::Array(at, _, _, _) => *at,
+            Denoter::Record(at, _, _) => *at,
+            Denoter::Set(at, _, _) => *at,
+            Denoter::File(at, _, _) => *at,
+            Denoter::Fields(_, _) => 0,
+        }
+    }
 }
