@@ -26,3 +26,9 @@ pub mod ProgramExample
 pub mod FirstErrorExamples
 pub mod LimitExamples
 pub mod FollowsExample
+pub mod IndexLemmas
+pub mod LeavesTold
+pub mod LeavesOfExpressions
+pub mod LeavesOfStatements
+pub mod LeavesOfTypes
+pub mod LeavesOfHeadings

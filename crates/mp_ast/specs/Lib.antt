@@ -15,5 +15,8 @@ pub mod PlainHeadings
 pub mod PlainTrees
 pub mod Blocks
 pub mod WholeTrees
+pub mod Leaves
+pub mod LeavesOfBlocks
+pub mod LeavesInText
 pub mod BlocksExample
 pub mod Examples
