@@ -35,3 +35,9 @@ pub mod LimitExamples
 pub mod FollowsExample
 pub mod OperatorExamples
 pub mod ProductionExamples
+pub mod IndexLemmas
+pub mod LeavesTold
+pub mod LeavesOfExpressions
+pub mod LeavesOfStatements
+pub mod LeavesOfTypes
+pub mod LeavesOfHeadings

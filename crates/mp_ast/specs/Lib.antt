@@ -17,6 +17,9 @@ pub mod FirstTokens
 pub mod Blocks
 pub mod WholeTrees
 pub mod WellFormed
+pub mod Leaves
+pub mod LeavesOfBlocks
+pub mod LeavesInText
 pub mod BlocksExample
 pub mod Examples
 pub mod ProductionExamples
