@@ -37,7 +37,7 @@ fn last_line_end(text: &[u8], from: usize, to: usize) -> Option<usize>
 }
 
 // Whether a line end stands wherever a line may be longest, so that no line is longer: a glance for each such stretch.
-// For a text of 262,144 bytes in ordinary lines that takes 0.002 ms, and counting 0.3 ms.
+// Counting takes 0.4 ms for a text of 262,144 bytes in ordinary lines, and the glances next to none.
 fn are_lines_short(text: &[u8]) -> bool
     ensures { IsTrue result → position_from is_long 1 (lines_of text.now) ≡ None }
 {
