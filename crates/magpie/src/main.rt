@@ -32,5 +32,5 @@ fn status_of(rt: &HostRuntime) -> Status {
 }
 
 fn main(rt: HostRuntime) -> ExitCode {
-    ExitCode::from(status_of(&rt).number())
+    status_of(&rt).exit_code()
 }

@@ -1,5 +1,5 @@
 -- A session and the command that waits for lines.
-use Rattle.std.specs.Prelude.{◌≡◌, ◌<◌, ◌≤◌, ℕ, Option, Some, None, length, List, [], ◌∷◌, ◌++◌, Bool, true, false, Result, Ok, Err}
+use Rattle.std.specs.Prelude.{◌≡◌, ◌<◌, ◌≤◌, ℕ, Option, Some, None, length, List, [], ◌∷◌, ◌++◌}
 use Rattle.mp_script.specs.declared.commands.Command.{Command}
 use Rattle.mp_script.specs.Meaning.{wants_of}
 use Rattle.mp_session.specs.declared.state.State.{State}
@@ -7,8 +7,6 @@ use Rattle.mp_session.specs.Lines.{Stand, step, closing}
 use Rattle.mp_session.specs.Transcript.{script_ended}
 use Rattle.mp_session.specs.declared.session.Turn.{Turn}
 use Rattle.mp_session.specs.declared.session.Turn.TheVariants as turn
-use Rattle.mp_session.specs.declared.session.SessionError.{SessionError}
-use Rattle.mp_session.specs.declared.session.SessionError.TheVariants as error
 
 -- a command that waits has fewer lines than it takes
 abbrev pub IsOpen : Option Command → Type 0
@@ -32,9 +30,3 @@ goes turn.Quit stand = None
 abbrev pub last_bytes : Stand → List ℕ → List ℕ
 last_bytes stand [] = closing script_ended (Some stand)
 last_bytes stand (b ∷ line) = (step stand (b ∷ line)).bytes ++ closing script_ended (step stand (b ∷ line)).now
-
--- a write failed
-abbrev pub write_failed : {A : Type 0} → Result A SessionError → Bool
-write_failed (Ok answer) = false
-write_failed (Err error.WriteFault) = true
-write_failed (Err error.Memory) = false

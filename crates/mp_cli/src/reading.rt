@@ -1,7 +1,7 @@
-ghost use Rattle.std.specs.Prelude.{◌≡◌, ◌≤◌, ◌<◌, [], vec_len};
+ghost use Rattle.std.specs.Prelude.{◌≡◌, [], vec_len};
 ghost use Rattle.std.specs.Io.KnownBytes.{Consumes, IsAtEnd};
-ghost use Rattle.mp_edge.specs.Causes.{Rose, counted};
 ghost use Rattle.mp_edge.specs.Told.{Grows};
+ghost use Rattle.mp_session.specs.Outside.{Failures};
 ghost use Rattle.mp_cli.specs.Reading.{is_fault, HasRead};
 
 use mp_base::SCRIPT_LIMIT;
@@ -30,10 +30,7 @@ pub(crate) fn read_all<S: Source>(source: &mut S, text: &mut Vec<u8>) -> Ending
     ensures left { Consumes (S.left source.old) (S.left source.new) text.new.items }
     ensures ending { HasRead result (vec_len text.new) (S.left source.new) }
 
-    ensures later { S.faults source.old ≤ S.faults source.new }
-    ensures failures { S.failures source.new ≡ counted (is_fault result) (S.failures source.old) }
-    ensures cause { result ≡ Ending.Fault → Rose (S.faults source.old) (S.faults source.new) }
-    ensures quiet { S.quiet source.old → S.quiet source.new × (S.faults source.new ≡ S.faults source.old) }
+    ensures source { Failures (is_fault result) (S.faults source.old) (S.faults source.new) (S.failures source.old) (S.failures source.new) (S.quiet source.old) (S.quiet source.new) }
 {
     let mut buffer = [0u8; BUFFER_SIZE];
     'reads: while text.len() < SCRIPT_LIMIT {

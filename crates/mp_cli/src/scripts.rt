@@ -1,10 +1,11 @@
-ghost use Rattle.std.specs.Prelude.{◌≡◌, ◌≤◌, ◌<◌, ◌^◌, OnOk, OnErr, Err, Some};
-ghost use Rattle.mp_edge.specs.Causes.{Rose, counted};
+ghost use Rattle.std.specs.Prelude.{◌≡◌, ◌≤◌, ◌<◌, ◌^◌, OnOk, OnErr, Some};
 ghost use Rattle.mp_edge.specs.Told.{Grows, GrowsPartly};
 ghost use Rattle.mp_session.specs.Lines.{closing_of};
+ghost use Rattle.mp_session.specs.Outside.{Failures};
 ghost use Rattle.mp_session.specs.Replies.{start};
 ghost use Rattle.mp_session.specs.Transcript.{script_ended};
-ghost use Rattle.mp_cli.specs.Talk.{IsOpen, last_bytes, standing, write_failed};
+ghost use Rattle.mp_session.specs.Turns.{is_write_fault};
+ghost use Rattle.mp_cli.specs.Talk.{IsOpen, last_bytes, standing};
 ghost use Rattle.mp_cli.specs.Top.{Met, read_failed_at, write_failed_at};
 
 use crate::forms::Form;
@@ -21,18 +22,12 @@ use std::alloc::Global;
 fn close<K: Sink>(waiting: &Option<Command>, sink: &mut K) -> Result<(), SessionError>
     ensures ok { OnOk result (Grows (K.written sink.old) (K.written sink.new) (closing_of script_ended waiting.now)) }
     ensures partly { OnErr result (GrowsPartly (K.written sink.old) (K.written sink.new) (closing_of script_ended waiting.now)) }
-    ensures later { K.faults sink.old ≤ K.faults sink.new }
-    ensures cause { result ≡ Err SessionError.WriteFault → Rose (K.faults sink.old) (K.faults sink.new) }
-    ensures failures { K.failures sink.new ≡ counted (write_failed result) (K.failures sink.old) }
-    ensures quiet { K.quiet sink.old → K.quiet sink.new × (K.faults sink.new ≡ K.faults sink.old) }
+    ensures sink { Failures (is_write_fault result) (K.faults sink.old) (K.faults sink.new) (K.failures sink.old) (K.failures sink.new) (K.quiet sink.old) (K.quiet sink.new) }
 {
-    match waiting {
-        None => Ok(()),
-        Some(_) => match write_all(sink, b"? 25 script ended\n") {
-            Ok(()) => Ok(()),
-            Err(_) => Err(SessionError::WriteFault),
-        },
+    if waiting.is_some() {
+        write_all(sink, b"? 25 script ended\n")?;
     }
+    Ok(())
 }
 
 // The end of a script: the last line where it is not ended, and the command that still waits.
@@ -47,24 +42,14 @@ fn finish<K: Sink>(
     requires count { session.old.obeyed < 2 ^ 32 }
     ensures ok { OnOk result (Grows (K.written sink.old) (K.written sink.new) (last_bytes (standing session.old.state waiting.old) lines)) }
     ensures partly { OnErr result (GrowsPartly (K.written sink.old) (K.written sink.new) (last_bytes (standing session.old.state waiting.old) lines)) }
-    ensures later { K.faults sink.old ≤ K.faults sink.new }
-    ensures cause { result ≡ Err SessionError.WriteFault → Rose (K.faults sink.old) (K.faults sink.new) }
-    ensures failures { K.failures sink.new ≡ counted (write_failed result) (K.failures sink.old) }
-    ensures quiet { K.quiet sink.old → K.quiet sink.new × (K.faults sink.new ≡ K.faults sink.old) }
+    ensures sink { Failures (is_write_fault result) (K.faults sink.old) (K.faults sink.new) (K.failures sink.old) (K.failures sink.new) (K.quiet sink.old) (K.quiet sink.new) }
 {
-    match lines.finish() {
-        None => match close(waiting, sink) {
-            Ok(()) => Ok(()),
-            Err(error) => Err(error),
-        },
-        Some(line) => match take_line(alloc, session, waiting, line, sink) {
-            Ok(Turn::Quit) => Ok(()),
-            Err(error) => Err(error),
-            Ok(Turn::On) => match close(waiting, sink) {
-                Ok(()) => Ok(()),
-                Err(error) => Err(error),
-            },
-        },
+    let Some(line) = lines.finish() else {
+        return close(waiting, sink);
+    };
+    match take_line(alloc, session, waiting, line, sink)? {
+        Turn::On => close(waiting, sink),
+        Turn::Quit => Ok(()),
     }
 }
 
@@ -77,16 +62,8 @@ fn obey_script<S: Source, K: Sink>(
 ) -> Status
     requires { session.old ≡ record { state = start; obeyed = 0 } }
     ensures met { Met (Some Form.Serial) result (S.taken source.old) (S.taken source.new) (S.left source.old) (S.left source.new) (K.written sink.old) (K.written sink.new) }
-
-    ensures read_fault { result ≡ Status.ReadFault → Rose (S.faults source.old) (S.faults source.new) }
-    ensures write_fault { result ≡ Status.WriteFault → Rose (K.faults sink.old) (K.faults sink.new) }
-    ensures failed_reads { S.failures source.new ≡ counted (read_failed_at result) (S.failures source.old) }
-    ensures failed_writes { K.failures sink.new ≡ counted (write_failed_at result) (K.failures sink.old) }
-
-    ensures source_later { S.faults source.old ≤ S.faults source.new }
-    ensures sink_later { K.faults sink.old ≤ K.faults sink.new }
-    ensures source_quiet { S.quiet source.old → S.quiet source.new × (S.faults source.new ≡ S.faults source.old) }
-    ensures sink_quiet { K.quiet sink.old → K.quiet sink.new × (K.faults sink.new ≡ K.faults sink.old) }
+    ensures source { Failures (read_failed_at result) (S.faults source.old) (S.faults source.new) (S.failures source.old) (S.failures source.new) (S.quiet source.old) (S.quiet source.new) }
+    ensures sink { Failures (write_failed_at result) (K.faults sink.old) (K.faults sink.new) (K.failures sink.old) (K.failures sink.new) (K.quiet sink.old) (K.quiet sink.new) }
 {
     let mut waiting: Option<Command> = None;
     let mut lines = Lines::new(alloc);
@@ -122,16 +99,8 @@ fn obey_script<S: Source, K: Sink>(
 /// Obeys the script that the source gives, in a session without threads.
 pub(crate) fn serial<S: Source, K: Sink>(alloc: Global, source: &mut S, sink: &mut K) -> Status
     ensures met { Met (Some Form.Serial) result (S.taken source.old) (S.taken source.new) (S.left source.old) (S.left source.new) (K.written sink.old) (K.written sink.new) }
-
-    ensures read_fault { result ≡ Status.ReadFault → Rose (S.faults source.old) (S.faults source.new) }
-    ensures write_fault { result ≡ Status.WriteFault → Rose (K.faults sink.old) (K.faults sink.new) }
-    ensures failed_reads { S.failures source.new ≡ counted (read_failed_at result) (S.failures source.old) }
-    ensures failed_writes { K.failures sink.new ≡ counted (write_failed_at result) (K.failures sink.old) }
-
-    ensures source_later { S.faults source.old ≤ S.faults source.new }
-    ensures sink_later { K.faults sink.old ≤ K.faults sink.new }
-    ensures source_quiet { S.quiet source.old → S.quiet source.new × (S.faults source.new ≡ S.faults source.old) }
-    ensures sink_quiet { K.quiet sink.old → K.quiet sink.new × (K.faults sink.new ≡ K.faults sink.old) }
+    ensures source { Failures (read_failed_at result) (S.faults source.old) (S.faults source.new) (S.failures source.old) (S.failures source.new) (S.quiet source.old) (S.quiet source.new) }
+    ensures sink { Failures (write_failed_at result) (K.faults sink.old) (K.faults sink.new) (K.failures sink.old) (K.failures sink.new) (K.quiet sink.old) (K.quiet sink.new) }
 {
     match Session::serial(alloc) {
         Ok(mut session) => obey_script(alloc, &mut session, source, sink),

@@ -1,5 +1,8 @@
 ghost use Rattle.std.specs.Prelude.{◌≡◌};
+ghost use Rattle.std.specs.Process.{exit_status};
 ghost use Rattle.mp_cli.specs.Top.{number_of};
+
+use std::process::ExitCode;
 
 /// How a top call ended.
 #[derive(Clone, Copy, Debug, PartialEq, Eq)]
@@ -19,7 +22,7 @@ pub enum Status {
 }
 
 impl Status {
-    /// The number with which the program exits.
+    /// The number of the status, with which the program exits.
     pub fn number(self) -> u8
         ensures { result ≡ number_of self }
     {
@@ -31,5 +34,12 @@ impl Status {
             Status::Memory => 4,
             Status::ScriptLimit => 5,
         }
+    }
+
+    /// What `main` returns, so that the program exits with this status's number.
+    pub fn exit_code(self) -> ExitCode
+        ensures { exit_status result ≡ number_of self }
+    {
+        ExitCode::from(self.number())
     }
 }

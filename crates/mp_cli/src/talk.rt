@@ -1,8 +1,8 @@
-ghost use Rattle.std.specs.Prelude.{◌≡◌, ◌≤◌, ◌<◌, ◌+◌, ◌^◌, IfOk, OnOk, OnErr, Err, length};
-ghost use Rattle.mp_edge.specs.Causes.{Rose, counted};
+ghost use Rattle.std.specs.Prelude.{◌≡◌, ◌≤◌, ◌<◌, ◌+◌, ◌^◌, IfOk, OnOk, OnErr, length};
 ghost use Rattle.mp_edge.specs.Told.{Grows, GrowsPartly};
 ghost use Rattle.mp_session.specs.Lines.{after, from, next_of, step};
-ghost use Rattle.mp_session.specs.Turns.{write_failed};
+ghost use Rattle.mp_session.specs.Outside.{Failures};
+ghost use Rattle.mp_session.specs.Turns.{is_write_fault};
 ghost use Rattle.mp_cli.specs.Talk.{IsNext, IsOpen, goes, standing};
 
 use mp_base::{Memory, TextLine, TextLines};
@@ -55,30 +55,18 @@ pub(crate) fn take_line<K: Sink>(
     ensures count { OnOk result (session.new.obeyed ≤ session.old.obeyed + 1) }
 
     // What went wrong.
-    ensures later { K.faults sink.old ≤ K.faults sink.new }
-    ensures cause { result ≡ Err SessionError.WriteFault → Rose (K.faults sink.old) (K.faults sink.new) }
-    ensures failures { K.failures sink.new ≡ counted (write_failed result) (K.failures sink.old) }
-    ensures quiet { K.quiet sink.old → K.quiet sink.new × (K.faults sink.new ≡ K.faults sink.old) }
+    ensures sink { Failures (is_write_fault result) (K.faults sink.old) (K.faults sink.new) (K.failures sink.old) (K.failures sink.new) (K.quiet sink.old) (K.quiet sink.new) }
 {
     let before = mem::replace(waiting, None);
-    match next_command(alloc, before, line) {
-        Err(Memory) => Err(SessionError::Memory),
-        Ok(None) => match write_all(sink, b"? 20 bad command\n") {
-            Ok(()) => Ok(Turn::On),
-            Err(_) => Err(SessionError::WriteFault),
-        },
-        Ok(Some(next)) => {
-            if next.lines.get().len() < next.wants as usize {
-                *waiting = Some(next);
-                Ok(Turn::On)
-            } else {
-                match session.obey(next, sink) {
-                    Ok(turn) => Ok(turn),
-                    Err(error) => Err(error),
-                }
-            }
-        }
+    let Some(next) = next_command(alloc, before, line)? else {
+        write_all(sink, b"? 20 bad command\n")?;
+        return Ok(Turn::On);
+    };
+    if next.lines.get().len() < next.wants as usize {
+        *waiting = Some(next);
+        return Ok(Turn::On);
     }
+    session.obey(next, sink)
 }
 
 /// Takes lines of a script one after another, up to the first `quit`.
@@ -100,16 +88,11 @@ pub(crate) fn take_lines<K: Sink>(
     ensures count { OnOk result (session.new.obeyed ≤ session.old.obeyed + length lines) }
 
     // What went wrong.
-    ensures later { K.faults sink.old ≤ K.faults sink.new }
-    ensures cause { result ≡ Err SessionError.WriteFault → Rose (K.faults sink.old) (K.faults sink.new) }
-    ensures failures { K.failures sink.new ≡ counted (write_failed result) (K.failures sink.old) }
-    ensures quiet { K.quiet sink.old → K.quiet sink.new × (K.faults sink.new ≡ K.faults sink.old) }
+    ensures sink { Failures (is_write_fault result) (K.faults sink.old) (K.faults sink.new) (K.failures sink.old) (K.failures sink.new) (K.quiet sink.old) (K.quiet sink.new) }
 {
     for line in lines.into_vec() {
-        match take_line(alloc, session, waiting, line, sink) {
-            Ok(Turn::On) => {}
-            Ok(Turn::Quit) => return Ok(Turn::Quit),
-            Err(error) => return Err(error),
+        if let Turn::Quit = take_line(alloc, session, waiting, line, sink)? {
+            return Ok(Turn::Quit);
         }
     }
     Ok(Turn::On)

@@ -1,5 +1,6 @@
-ghost use Rattle.std.specs.Prelude.{◌≡◌, ◌≤◌, ◌↔◌, IsNone, Some, map, string_bytes};
-ghost use Rattle.mp_edge.specs.Causes.{Rose, counted};
+ghost use Rattle.std.specs.Prelude.{◌≡◌, ◌↔◌, IsNone, Some, map, string_bytes};
+ghost use Rattle.mp_edge.specs.Causes.{Rose};
+ghost use Rattle.mp_session.specs.Outside.{Failures};
 ghost use Rattle.mp_cli.specs.Forms.{form_of};
 ghost use Rattle.mp_cli.specs.Top.{Met, Completes, read_failed_at, write_failed_at};
 
@@ -15,16 +16,8 @@ use std::alloc::Global;
 // Writes the listing of the text that the source gives.
 fn list<S: Source, K: Sink>(alloc: Global, source: &mut S, sink: &mut K) -> Status
     ensures met { Met (Some Form.List) result (S.taken source.old) (S.taken source.new) (S.left source.old) (S.left source.new) (K.written sink.old) (K.written sink.new) }
-
-    ensures read_fault { result ≡ Status.ReadFault → Rose (S.faults source.old) (S.faults source.new) }
-    ensures write_fault { result ≡ Status.WriteFault → Rose (K.faults sink.old) (K.faults sink.new) }
-    ensures failed_reads { S.failures source.new ≡ counted (read_failed_at result) (S.failures source.old) }
-    ensures failed_writes { K.failures sink.new ≡ counted (write_failed_at result) (K.failures sink.old) }
-
-    ensures source_later { S.faults source.old ≤ S.faults source.new }
-    ensures sink_later { K.faults sink.old ≤ K.faults sink.new }
-    ensures source_quiet { S.quiet source.old → S.quiet source.new × (S.faults source.new ≡ S.faults source.old) }
-    ensures sink_quiet { K.quiet sink.old → K.quiet sink.new × (K.faults sink.new ≡ K.faults sink.old) }
+    ensures source { Failures (read_failed_at result) (S.faults source.old) (S.faults source.new) (S.failures source.old) (S.failures source.new) (S.quiet source.old) (S.quiet source.new) }
+    ensures sink { Failures (write_failed_at result) (K.faults sink.old) (K.faults sink.new) (K.failures sink.old) (K.failures sink.new) (K.quiet sink.old) (K.quiet sink.new) }
 {
     let mut text = Vec::new(alloc);
     match read_all(source, &mut text) {
@@ -33,17 +26,15 @@ fn list<S: Source, K: Sink>(alloc: Global, source: &mut S, sink: &mut K) -> Stat
         Ending::Limit => return Status::ScriptLimit,
         Ending::End => {}
     }
-    match end_last_line(&mut text) {
-        Ok(()) => {}
-        Err(_) => return Status::Memory,
-    }
+    let Ok(()) = end_last_line(&mut text) else {
+        return Status::Memory;
+    };
     let Ok(bytes) = list_transcript(alloc, text.as_slice()) else {
         return Status::Memory;
     };
-    match write_all(sink, bytes.get()) {
-        Ok(()) => {}
-        Err(_) => return Status::WriteFault,
-    }
+    let Ok(()) = write_all(sink, bytes.get()) else {
+        return Status::WriteFault;
+    };
     Status::Done
 }
 
@@ -63,23 +54,17 @@ pub fn run_plain<S: Source, K: Sink>(
     ensures complete { ¬ Rose (S.faults source.old) (S.faults source.new) → ¬ Rose (K.faults sink.old) (K.faults sink.new)
         → Completes (form_of (map string_bytes words.now)) result (S.left source.old) (K.written sink.old) (K.written sink.new) }
 
-    // When a status comes.
+    // When the words are of no form.
     ensures words { result ≡ Status.Words ↔ IsNone (form_of (map string_bytes words.now)) }
     ensures untouched { result ≡ Status.Words → (source.new ≡ source.old) × (sink.new ≡ sink.old) }
-    ensures read_fault { result ≡ Status.ReadFault → Rose (S.faults source.old) (S.faults source.new) }
-    ensures write_fault { result ≡ Status.WriteFault → Rose (K.faults sink.old) (K.faults sink.new) }
-    ensures failed_reads { S.failures source.new ≡ counted (read_failed_at result) (S.failures source.old) }
-    ensures failed_writes { K.failures sink.new ≡ counted (write_failed_at result) (K.failures sink.old) }
 
-    // What stays of the source and the sink.
-    ensures source_later { S.faults source.old ≤ S.faults source.new }
-    ensures sink_later { K.faults sink.old ≤ K.faults sink.new }
-    ensures source_quiet { S.quiet source.old → S.quiet source.new × (S.faults source.new ≡ S.faults source.old) }
-    ensures sink_quiet { K.quiet sink.old → K.quiet sink.new × (K.faults sink.new ≡ K.faults sink.old) }
+    // What went wrong.
+    ensures source { Failures (read_failed_at result) (S.faults source.old) (S.faults source.new) (S.failures source.old) (S.failures source.new) (S.quiet source.old) (S.quiet source.new) }
+    ensures sink { Failures (write_failed_at result) (K.faults sink.old) (K.faults sink.new) (K.failures sink.old) (K.failures sink.new) (K.quiet sink.old) (K.quiet sink.new) }
 {
     match form_of(words) {
-        None => return Status::Words,
-        Some(Form::List) => return list(alloc, source, sink),
-        Some(Form::Serial) => return serial(alloc, source, sink),
+        None => Status::Words,
+        Some(Form::List) => list(alloc, source, sink),
+        Some(Form::Serial) => serial(alloc, source, sink),
     }
 }

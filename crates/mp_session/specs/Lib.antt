@@ -4,3 +4,4 @@ pub mod Replies
 pub mod Transcript
 pub mod Lines
 pub mod Turns
+pub mod Outside

@@ -68,11 +68,11 @@ abbrev pub back_reply : State → ℕ → Replied
 back_reply state version = made (back_refusal state.versions version) version state (version_at state.versions version)
 
 -- a version with its number and the number of its lines
-abbrev pub shown : ℕ → List (List ℕ) → List ℕ
-shown version text = codes "version " ++ (decimal version ++ (codes ", " ++ (decimal (length text) ++ (codes " lines\n" ++ bytes_of text))))
+abbrev pub whole_version : ℕ → List (List ℕ) → List ℕ
+whole_version version text = codes "version " ++ (decimal version ++ (codes ", " ++ (decimal (length text) ++ (codes " lines\n" ++ bytes_of text))))
 
 abbrev pub text_reply : State → ℕ → Replied
-text_reply state version = said state (if stands state.versions version then shown version (version_at state.versions version) else refusal_line error.NoVersion version)
+text_reply state version = said state (if stands state.versions version then whole_version version (version_at state.versions version) else refusal_line error.NoVersion version)
 
 abbrev pub list_reply : State → ℕ → Replied
 list_reply state version = said state (if stands state.versions version then text_listing (version_at state.versions version) else refusal_line error.NoVersion version)

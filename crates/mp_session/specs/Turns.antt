@@ -10,8 +10,8 @@ use Rattle.mp_session.specs.declared.session.Turn.TheVariants as turn
 abbrev pub turn_of : Verb → Turn
 turn_of verb = if is_quit verb then turn.Quit else turn.On
 
--- a write of the command failed
-abbrev pub write_failed : Result Turn SessionError → Bool
-write_failed (Ok turn) = false
-write_failed (Err error.WriteFault) = true
-write_failed (Err error.Memory) = false
+-- whether a write failed
+abbrev pub is_write_fault : {A : Type 0} → Result A SessionError → Bool
+is_write_fault (Ok answer) = false
+is_write_fault (Err error.WriteFault) = true
+is_write_fault (Err error.Memory) = false

@@ -5,7 +5,7 @@ use mp_ast::{Symbol, Token, TokenKind, WordSymbol};
 
 /// A token of the empty program, `program` identifier `;` `begin` `end` `.`.
 #[derive(Clone, Copy)]
-pub enum Part {
+pub enum ProgramPart {
     Program,
     Identifier,
     Semicolon,
@@ -15,32 +15,32 @@ pub enum Part {
 }
 
 /// The tokens of the empty program, in order.
-const EMPTY_PROGRAM: [Part; 6] = [
-    Part::Program,
-    Part::Identifier,
-    Part::Semicolon,
-    Part::Begin,
-    Part::End,
-    Part::Dot,
+const EMPTY_PROGRAM: [ProgramPart; 6] = [
+    ProgramPart::Program,
+    ProgramPart::Identifier,
+    ProgramPart::Semicolon,
+    ProgramPart::Begin,
+    ProgramPart::End,
+    ProgramPart::Dot,
 ];
 
 // Whether a token of this kind is this part.
-fn is_of(part: Part, kind: &TokenKind) -> bool
+fn is_of(part: ProgramPart, kind: &TokenKind) -> bool
     ensures { result ≡ is_of part kind.now }
 {
     match (part, kind) {
-        (Part::Program, TokenKind::Word(WordSymbol::Program)) => true,
-        (Part::Identifier, TokenKind::Id(_)) => true,
-        (Part::Semicolon, TokenKind::Symbol(Symbol::Semicolon)) => true,
-        (Part::Begin, TokenKind::Word(WordSymbol::Begin)) => true,
-        (Part::End, TokenKind::Word(WordSymbol::End)) => true,
-        (Part::Dot, TokenKind::Symbol(Symbol::Dot)) => true,
+        (ProgramPart::Program, TokenKind::Word(WordSymbol::Program)) => true,
+        (ProgramPart::Identifier, TokenKind::Id(_)) => true,
+        (ProgramPart::Semicolon, TokenKind::Symbol(Symbol::Semicolon)) => true,
+        (ProgramPart::Begin, TokenKind::Word(WordSymbol::Begin)) => true,
+        (ProgramPart::End, TokenKind::Word(WordSymbol::End)) => true,
+        (ProgramPart::Dot, TokenKind::Symbol(Symbol::Dot)) => true,
         _ => false,
     }
 }
 
 // The first byte at which the tokens depart from these parts.
-fn departure_from(parts: &[Part], tokens: &[Token], end: usize) -> Option<usize>
+fn departure_from(parts: &[ProgramPart], tokens: &[Token], end: usize) -> Option<usize>
     ensures { result ≡ departure parts.now tokens.now end }
 {
     for (i, token) in tokens.iter().enumerate() {

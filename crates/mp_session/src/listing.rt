@@ -9,30 +9,12 @@ ghost use Rattle.mp_session.specs.Listing.{built_or_not, not_built, parsed_listi
 
 use crate::departure::departure;
 use itoa::Buffer;
-use mp_ast::{Lexed, Token, Tree};
+use mp_ast::{Lexed, Token};
 use mp_base::{At, Bytes, Memory, TEXT_LIMIT};
 use mp_diag::{Shown, listing, position, shown_errors};
 use mp_lex::lex;
 use mp_parse::{ParseError, parse};
 use std::alloc::Global;
-use std::mem::forget;
-
-/// What becomes of the program when it has written a listing.
-#[derive(Clone, Copy)]
-pub(crate) enum Afterwards {
-    /// It goes on: what the listing was made from is freed.
-    GoesOn,
-    /// It ends: what the listing was made from is left to the system, which takes it back at once and not node by node.
-    Ends,
-}
-
-// The end of a value that is needed no more.
-fn let_go<T: Drop>(value: T, afterwards: Afterwards) {
-    match afterwards {
-        Afterwards::GoesOn => drop(value),
-        Afterwards::Ends => forget(value),
-    }
-}
 
 // The line that says from where on a text is not built yet.
 fn not_built(alloc: Global, at: At) -> Result<Bytes, Memory>
@@ -57,22 +39,6 @@ fn built_or_not(alloc: Global, text: &[u8], tokens: &[Token]) -> Result<Bytes, M
         None => listing(alloc, &[]),
         Some(byte) => not_built(alloc, position(text, byte)),
     }
-}
-
-// The same, where the program's tree is at hand and needed no more.
-fn program_listing(
-    alloc: Global,
-    text: &[u8],
-    tokens: &[Token],
-    tree: Tree,
-    afterwards: Afterwards,
-) -> Result<Bytes, Memory>
-    requires few { length text.now ≤ TEXT_LIMIT }
-    requires within { All (λ token. token.start < length text.now) tokens.now }
-    ensures { IfOk result (λ bytes. bytes ≡ built_or_not (lines_of text.now) (departure empty_program tokens.now (length text.now))) }
-{
-    let_go(tree, afterwards);
-    built_or_not(alloc, text, tokens)
 }
 
 // The first byte of the token with this index, or the end where there is no such token.
@@ -105,12 +71,7 @@ fn syntax_listing(
 }
 
 // The listing of a text without lexical errors, of which these are the tokens.
-fn parsed_listing(
-    alloc: Global,
-    text: &[u8],
-    lexed: &Lexed,
-    afterwards: Afterwards,
-) -> Result<Bytes, Memory>
+fn parsed_listing(alloc: Global, text: &[u8], lexed: &Lexed) -> Result<Bytes, Memory>
     requires few { length text.now ≤ TEXT_LIMIT }
     requires ended { text.now ≡ bytes_of (lines_of text.now) }
     requires within { All (λ token. token.start < length text.now) lexed.now.tokens }
@@ -119,7 +80,10 @@ fn parsed_listing(
 {
     let tokens = lexed.tokens.get();
     match parse(alloc, lexed) {
-        Ok(tree) => program_listing(alloc, text, tokens, tree, afterwards),
+        Ok(tree) => {
+            drop(tree);
+            built_or_not(alloc, text, tokens)
+        }
         Err(ParseError::Syntax { token, code }) => {
             syntax_listing(alloc, text, tokens, token, code)
         }
@@ -128,11 +92,7 @@ fn parsed_listing(
 }
 
 /// The listing of a text whose last line is ended.
-pub(crate) fn text_listing(
-    alloc: Global,
-    text: &[u8],
-    afterwards: Afterwards,
-) -> Result<Bytes, Memory>
+pub(crate) fn text_listing(alloc: Global, text: &[u8]) -> Result<Bytes, Memory>
     requires few { length text.now ≤ TEXT_LIMIT }
     requires ended { text.now ≡ bytes_of (lines_of text.now) }
     ensures { IfOk result (λ bytes. bytes ≡ text_listing (lines_of text.now)) }
@@ -143,7 +103,5 @@ pub(crate) fn text_listing(
         let shown = shown_errors(alloc, text, errors)?;
         return listing(alloc, shown.as_slice());
     }
-    let listed = parsed_listing(alloc, text, &lexed, afterwards);
-    let_go(lexed, afterwards);
-    listed
+    parsed_listing(alloc, text, &lexed)
 }

@@ -4,7 +4,7 @@ ghost use Rattle.mp_script.specs.Meaning.{wants_of};
 ghost use Rattle.mp_session.specs.Replies.{back_reply, edit_reply, input_reply, list_reply, list_transcript, meant_version, one_line, refusal_line, reply, text_reply, version_line};
 ghost use Rattle.mp_text.specs.Edits.{new_lines};
 
-use crate::listing::{Afterwards, text_listing};
+use crate::listing::text_listing;
 use crate::state::State;
 use crate::texts::limit_refusal;
 use itoa::Buffer;
@@ -25,7 +25,7 @@ fn around(alloc: Global, front: &[u8], number: u64, back: &[u8]) -> Result<Bytes
 }
 
 // The line of a refusal; `version` is the one that was named.
-fn refusal(alloc: Global, error: TextError, version: u64) -> Result<Bytes, Memory>
+fn refusal_line(alloc: Global, error: TextError, version: u64) -> Result<Bytes, Memory>
     ensures { IfOk result (λ bytes. bytes ≡ refusal_line error version) }
 {
     match error {
@@ -53,7 +53,7 @@ fn version_bytes(
     match answer {
         Ok(version) => around(alloc, b"version ", u64::from(version.0), b"\n"),
         Err(TextError::Memory) => Err(Memory),
-        Err(error) => refusal(alloc, error, named),
+        Err(error) => refusal_line(alloc, error, named),
     }
 }
 
@@ -82,7 +82,7 @@ fn text(alloc: Global, state: &State, version: u32) -> Result<Bytes, Memory>
     let bytes = match state.versions.bytes(Version(version)) {
         Ok(bytes) => bytes,
         Err(TextError::Memory) => return Err(Memory),
-        Err(error) => return refusal(alloc, error, u64::from(version)),
+        Err(error) => return refusal_line(alloc, error, u64::from(version)),
     };
     let count = state.versions.line_count(Version(version));
     let head = around(alloc, b"version ", u64::from(version), b", ")?;
@@ -98,9 +98,9 @@ fn list(alloc: Global, state: &State, version: u32) -> Result<Bytes, Memory>
     ensures { IfOk result (λ bytes. list_reply state.now version ≡ record { state = state.now; bytes = bytes }) }
 {
     match state.versions.bytes(Version(version)) {
-        Ok(bytes) => text_listing(alloc, bytes.get(), Afterwards::GoesOn),
+        Ok(bytes) => text_listing(alloc, bytes.get()),
         Err(TextError::Memory) => Err(Memory),
-        Err(error) => refusal(alloc, error, u64::from(version)),
+        Err(error) => refusal_line(alloc, error, u64::from(version)),
     }
 }
 
@@ -194,15 +194,14 @@ pub(crate) fn reply(alloc: Global, state: &mut State, command: Command) -> Resul
 }
 
 /// What is written where the listing of a text, whose last line is ended, is asked for outside a session: its
-/// listing, or the line of the refusal where it breaks a limit. It is for a program that ends then: where the text is a
-/// program, the memory of its tokens and of its tree is left to the system.
+/// listing, or the line of the refusal where it breaks a limit.
 pub fn list_transcript(alloc: Global, text: &[u8]) -> Result<Bytes, Memory>
     requires few { length text.now ≤ SCRIPT_LIMIT }
     requires ended { text.now ≡ bytes_of (lines_of text.now) }
     ensures { IfOk result (λ bytes. bytes ≡ list_transcript (lines_of text.now)) }
 {
     match limit_refusal(text) {
-        None => text_listing(alloc, text, Afterwards::Ends),
-        Some(error) => refusal(alloc, error, 0),
+        None => text_listing(alloc, text),
+        Some(error) => refusal_line(alloc, error, 0),
     }
 }

@@ -1,14 +1,14 @@
-ghost use Rattle.std.specs.Prelude.{◌≡◌, ◌≢◌, ◌≤◌, ◌<◌, ◌+◌, ◌^◌, [], IfOk, OnOk, OnErr, Err, is_err, length};
-ghost use Rattle.mp_edge.specs.Causes.{Rose, counted};
+ghost use Rattle.std.specs.Prelude.{◌≡◌, ◌≢◌, ◌<◌, ◌+◌, ◌^◌, [], IfOk, OnOk, OnErr, Err, length};
 ghost use Rattle.mp_edge.specs.Told.{Grows, GrowsPartly};
 ghost use Rattle.mp_script.specs.Meaning.{wants_of};
+ghost use Rattle.mp_session.specs.Outside.{Failures};
 ghost use Rattle.mp_session.specs.Replies.{reply, start};
-ghost use Rattle.mp_session.specs.Turns.{turn_of, write_failed};
+ghost use Rattle.mp_session.specs.Turns.{is_write_fault, turn_of};
 
 use crate::replies::reply;
 use crate::state::State;
 use mp_base::{Memory, TextLines};
-use mp_edge::{Sink, write_all};
+use mp_edge::{Sink, WriteFailed, write_all};
 use mp_script::{Command, Verb};
 use mp_text::Texts;
 use std::alloc::Global;
@@ -33,6 +33,28 @@ pub enum SessionError {
     /// Memory was wanting.
     #[error("out of memory")]
     Memory,
+}
+
+impl From<WriteFailed> for SessionError {
+    ghost use Rattle.std.specs.Prelude.{◌≡◌};
+    ghost use Rattle.mp_session.specs.declared.session.SessionError.TheVariants as error;
+
+    ghost from_gives = { λ _ e. e ≡ error.WriteFault };
+
+    fn from(_: WriteFailed) -> SessionError {
+        SessionError::WriteFault
+    }
+}
+
+impl From<Memory> for SessionError {
+    ghost use Rattle.std.specs.Prelude.{◌≡◌};
+    ghost use Rattle.mp_session.specs.declared.session.SessionError.TheVariants as error;
+
+    ghost from_gives = { λ _ e. e ≡ error.Memory };
+
+    fn from(_: Memory) -> SessionError {
+        SessionError::Memory
+    }
 }
 
 /// The versions of a text, and the commands on them.
@@ -94,20 +116,12 @@ impl Session {
         ensures count { OnOk result (self.new.obeyed ≡ self.old.obeyed + 1) }
 
         // What went wrong.
-        ensures later { K.faults sink.old ≤ K.faults sink.new }
-        ensures cause { result ≡ Err SessionError.WriteFault → Rose (K.faults sink.old) (K.faults sink.new) }
-        ensures failures { K.failures sink.new ≡ counted (write_failed result) (K.failures sink.old) }
-        ensures quiet { K.quiet sink.old → K.quiet sink.new × (K.faults sink.new ≡ K.faults sink.old) }
+        ensures sink { Failures (is_write_fault result) (K.faults sink.old) (K.faults sink.new) (K.failures sink.old) (K.failures sink.new) (K.quiet sink.old) (K.quiet sink.new) }
     {
         let turn = turn_of(&command.verb);
         self.obeyed += 1;
-        let Ok(bytes) = reply(self.alloc, &mut self.state, command) else {
-            return Err(SessionError::Memory);
-        };
-        match write_all(sink, bytes.get()) {
-            Ok(()) => {}
-            Err(_) => return Err(SessionError::WriteFault),
-        }
+        let bytes = reply(self.alloc, &mut self.state, command)?;
+        write_all(sink, bytes.get())?;
         Ok(turn)
     }
 

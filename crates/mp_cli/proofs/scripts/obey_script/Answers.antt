@@ -109,11 +109,11 @@ reads-preserved g c =
       waits = c.in-Ok-On.ensures.open;
       room = omega (arith, c.reads.invariant.room, c.in-Ok-On.ensures.count, cut_count (c.reads.lines ++ piece), length-append c.reads.lines piece, length-take c.in-Bytes.count c.read.new.buf, lt, ap length w, ap length r);
       source_later = omega (arith, c.in-Bytes.ensures.later, c.reads.invariant.source_later);
-      sink_later = omega (arith, c.in-Ok-On.ensures.later, c.reads.invariant.sink_later);
+      sink_later = omega (arith, c.in-Ok-On.ensures.sink.later, c.reads.invariant.sink_later);
       source_failures = c.in-Bytes.ensures.failures ∙ c.reads.invariant.source_failures;
-      sink_failures = c.in-Ok-On.ensures.failures ∙ c.reads.invariant.sink_failures;
+      sink_failures = c.in-Ok-On.ensures.sink.failures ∙ c.reads.invariant.sink_failures;
       source_quiet = λ q. let before = c.reads.invariant.source_quiet q in let now = c.in-Bytes.ensures.quiet before.0 in (now.0, now.1 ∙ before.1);
-      sink_quiet = λ q. let before = c.reads.invariant.sink_quiet q in let now = c.in-Ok-On.ensures.quiet before.0 in (now.0, now.1 ∙ before.1);
+      sink_quiet = λ q. let before = c.reads.invariant.sink_quiet q in let now = c.in-Ok-On.ensures.sink.quiet before.0 in (now.0, now.1 ∙ before.1);
       run = (
         h.0 ++ piece,
         h.1 ++ replied,

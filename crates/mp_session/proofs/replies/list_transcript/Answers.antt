@@ -17,4 +17,4 @@ returns-in-None c =
 pub returns-in-Some : goal.returns-in-Some
 returns-in-Some c =
     let text = lines_of c.args.text.now in
-    IfOk-weaker c.refusal.result (λ bytes. bytes ≡ refusal_line c.in-Some.error 0) (λ bytes. bytes ≡ list_transcript text) (λ bytes. listed_so text (Some c.in-Some.error) bytes (sym c.in-Some.is ∙ c.limit_refusal.ensures)) c.refusal.ensures
+    IfOk-weaker c.refusal_line.result (λ bytes. bytes ≡ refusal_line c.in-Some.error 0) (λ bytes. bytes ≡ list_transcript text) (λ bytes. listed_so text (Some c.in-Some.error) bytes (sym c.in-Some.is ∙ c.limit_refusal.ensures)) c.refusal_line.ensures

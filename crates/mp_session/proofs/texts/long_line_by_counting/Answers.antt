@@ -1,8 +1,8 @@
 use Rattle.std.proofs.Common.{◌∙◌, sym, arith}
 use Rattle.std.proofs.lemmas.Bool.{ne_eqb}
 use Rattle.mp_session.proofs.TextLemmas.{long_from_is, long_at_end, long_at_more, long_at_stop, long_behind}
-use Rattle.mp_session.proofs.texts.first_long.Goals as goal
-use Rattle.mp_session.proofs.texts.first_long.Goals.{then-byte-eq10, else-byte-eq10+then-before-lt-LINE_LIMIT}
+use Rattle.mp_session.proofs.texts.long_line_by_counting.Goals as goal
+use Rattle.mp_session.proofs.texts.long_line_by_counting.Goals.{then-byte-eq10, else-byte-eq10+then-before-lt-LINE_LIMIT}
 
 pub loop-byte-preserved : goal.loop-byte-preserved
 loop-byte-preserved c =

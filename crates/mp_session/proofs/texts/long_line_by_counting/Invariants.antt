@@ -1,7 +1,7 @@
 use Rattle.std.proofs.Common.{◌≡◌, ◌≤◌, ◌+◌, drop}
 use Rattle.mp_base.specs.declared.limits.TheConstants.{LINE_LIMIT}
 use Rattle.mp_session.proofs.TextLemmas.{long_from}
-use Rattle.mp_session.proofs.texts.first_long.Given as goal
+use Rattle.mp_session.proofs.texts.long_line_by_counting.Given as goal
 
 abbrev pub invariant-loop-byte : goal.invariant-loop-byte
 invariant-loop-byte l = record {
