@@ -22,6 +22,7 @@ pub mod WellFormedStatements
 pub mod WellFormedTypes
 pub mod WellFormedHeadings
 pub mod WellFormedBlocks
+pub mod HeadedBlocks
 pub mod PathLemmas
 pub mod ExampleLemmas
 pub mod ExpressionExample

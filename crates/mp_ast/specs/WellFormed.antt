@@ -1,9 +1,11 @@
 -- Well-formed blocks. A tree's type lets lists be empty and expressions, types and statements stand anywhere; here is
 -- left out what no program has of that.
 use Rattle.std.specs.Prelude.{◌≡◌, ◌⊎◌, ℕ, ◌+◌, List, [], ◌∷◌, Option, Some, None}
+use Rattle.mp_base.specs.declared.path.PathStep.{PathStep}
 use Rattle.mp_ast.specs.declared.leaves.Sign.{Sign}
 use Rattle.mp_ast.specs.declared.expressions.Operator.{Operator}
 use Rattle.mp_ast.specs.declared.expressions.Operator.TheVariants as operator
+use Rattle.mp_ast.specs.declared.blocks.ProgramHeading.{ProgramHeading}
 use Rattle.mp_ast.specs.PlainExpressions as expr
 use Rattle.mp_ast.specs.PlainExpressions.{PlainExpr, PlainSelectors, PlainActuals, PlainMembers, PlainOperations, PlainAccess}
 use Rattle.mp_ast.specs.PlainStatements as statement
@@ -238,3 +240,10 @@ pub record IsWellFormed (own : PlainBlock) : Type 0 where
   pub declarations : AreDeclarations own.declarations
   pub some_statement : HasStatement (statements_of_part own.statements)
   pub statements : AreStatements (statements_of_part own.statements)
+
+-- the block with the empty path, which is the program's, has the program's heading, and no other block has one
+abbrev pub FitsItsPath : List PathStep → Option ProgramHeading → Type 0
+FitsItsPath [] None = ⊥
+FitsItsPath [] (Some heading) = Unit {0}
+FitsItsPath (step ∷ path) None = Unit {0}
+FitsItsPath (step ∷ path) (Some heading) = ⊥

@@ -41,7 +41,7 @@ ghost use Rattle.mp_ast.specs.PlainTrees.{PlainTree, trees_of, plain_block, plai
 ghost use Rattle.mp_ast.specs.FirstTokens.{first_of_constant, first_of_access, first_of_expression, first_of_denoter, first_of_statement};
 ghost use Rattle.mp_ast.specs.Blocks.{tokens_of, blocks, own_tokens, index_of, token_position, PathsDiffer, EachIsAtItsPath, position};
 ghost use Rattle.mp_ast.specs.WholeTrees.{IsWhole, TokensAddUp, EachTokenHasABlock};
-ghost use Rattle.mp_ast.specs.WellFormed.{IsWellFormed};
+ghost use Rattle.mp_ast.specs.WellFormed.{IsWellFormed, FitsItsPath};
 ghost use Rattle.mp_ast.specs.BlocksExample as example;
 ghost use Rattle.mp_ast.specs.BlocksExample.{step, place};
 
@@ -137,9 +137,10 @@ pub fn trees_of_programs_are_whole()
     ensures each { (limits : Limits) (kinds : List TokenKind) (tree : Tree) → Derives limits kinds tree → EachTokenHasABlock (plain_tree tree) }
 {}
 
-/// Each block of a program is well-formed.
+/// Each block of a program is well-formed, and the program's alone has the program's heading.
 pub fn blocks_of_programs_are_well_formed()
-    ensures { (limits : Limits) (kinds : List TokenKind) (tree : Tree) → Derives limits kinds tree → AllByRecursion (λ block. IsWellFormed block.own) (blocks (plain_tree tree)) }
+    ensures headings { (limits : Limits) (kinds : List TokenKind) (tree : Tree) → Derives limits kinds tree → AllByRecursion (λ block. FitsItsPath block.path block.own.program) (blocks (plain_tree tree)) }
+    ensures own_trees { (limits : Limits) (kinds : List TokenKind) (tree : Tree) → Derives limits kinds tree → AllByRecursion (λ block. IsWellFormed block.own) (blocks (plain_tree tree)) }
 {}
 
 /// Each block of a tree has a path of its own, by which it is found.
