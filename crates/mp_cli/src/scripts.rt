@@ -1,4 +1,4 @@
-ghost use Rattle.std.specs.Prelude.{◌≡◌, ◌≤◌, ◌<◌, ◌^◌, OnOk, OnErr, Some};
+ghost use Rattle.std.specs.Prelude.{◌≡◌, ◌<◌, ◌^◌, OnOk, OnErr, Some};
 ghost use Rattle.mp_edge.specs.Told.{Grows, GrowsPartly};
 ghost use Rattle.mp_session.specs.Lines.{closing_of};
 ghost use Rattle.mp_session.specs.Outside.{Failures};
