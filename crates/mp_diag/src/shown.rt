@@ -1,6 +1,6 @@
 ghost use Rattle.std.specs.Prelude.{◌≡◌, ◌-◌, ◌^◌, ◌<◌, ◌≤◌, All, IfOk, length};
 ghost use Rattle.mp_base.specs.Position.{position_of};
-ghost use Rattle.mp_base.specs.Text.{lines_of};
+ghost use Rattle.mp_base.specs.Text.{bytes_of, lines_of};
 ghost use Rattle.mp_diag.specs.Listing.{shown_errors};
 
 use mp_ast::LexError;
@@ -16,20 +16,22 @@ pub struct Shown {
     pub code: u16,
 }
 
-/// The line and column of a byte of a text, or of the end of a text whose last line is ended, where `byte` is the
-/// number of its bytes.
+/// The line and column of a byte of a text whose last line is ended, or of its end, where `byte` is the number of its
+/// bytes: the end of n lines stands at line n + 1, column 1.
 pub fn position(text: &[u8], byte: usize) -> At
     requires short { length text.now < 2 ^ 32 - 1 }
+    requires ended { text.now ≡ bytes_of (lines_of text.now) }
     requires within { byte ≤ length text.now }
     ensures { result ≡ position_of (lines_of text.now) byte }
 {
     Positions::new(text).find(byte)
 }
 
-/// The lexical errors of a text as a listing shows them, each with its line and column, in the order given. Errors in
-/// the order of the text take one pass over it.
+/// The lexical errors of a text, whose last line is ended, as a listing shows them, each with its line and column, in
+/// the order given. Errors in the order of the text take one pass over it.
 pub fn shown_errors(alloc: Global, text: &[u8], errors: &[LexError]) -> Result<Vec<Shown>, Memory>
     requires short { length text.now < 2 ^ 32 - 1 }
+    requires ended { text.now ≡ bytes_of (lines_of text.now) }
     requires within { All (λ error. error.start ≤ length text.now) errors.now }
     ensures { IfOk result (λ shown. shown.items ≡ shown_errors (lines_of text.now) errors.now) }
 {

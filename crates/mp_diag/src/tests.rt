@@ -1,4 +1,5 @@
-ghost use Rattle.std.specs.Prelude.{◌≤◌, All, IfOk, length};
+ghost use Rattle.std.specs.Prelude.{◌≡◌, ◌≤◌, All, IfOk, length};
+ghost use Rattle.mp_base.specs.Text.{bytes_of, lines_of};
 ghost use Rattle.mp_diag.specs.Codes.{IsListed};
 
 use crate::messages::text_of;
@@ -60,7 +61,10 @@ fn listed_at(alloc: Global, rows: &[(u32, u32, u16)]) -> Result<String, Fail> {
     text(alloc, &bytes)
 }
 
-fn listed_of(alloc: Global, source: &[u8], rows: &[(u32, u16)]) -> Result<String, Fail> {
+// The listing of these lexical errors of a text whose last line is ended.
+fn listed_of(alloc: Global, source: &[u8], rows: &[(u32, u16)]) -> Result<String, Fail>
+    requires { source.now ≡ bytes_of (lines_of source.now) }
+{
     if source.len() > 100 {
         return Err(Memory)?;
     }
@@ -172,6 +176,7 @@ fn each_code_has_its_text(rt: HostRuntime) -> Result<(), Fail> {
 const SOURCE: &[u8] = b"ab\n\n{c\n";
 
 #[test]
+#[tactic(auto, unfolding(mp_base::specs::Text::bytes_of, mp_base::specs::Text::lines_of, mp_base::specs::Text::cut))]
 fn lexical_errors_stand_at_their_bytes(rt: HostRuntime) -> Result<(), Fail> {
     let cases: [(&[(u32, u16)], &str); 4] = [
         (&[], "accepted\n"),
@@ -201,6 +206,7 @@ fn lexical_errors_stand_at_their_bytes(rt: HostRuntime) -> Result<(), Fail> {
 }
 
 #[test]
+#[tactic(auto, unfolding(mp_base::specs::Text::bytes_of, mp_base::specs::Text::lines_of, mp_base::specs::Text::cut))]
 fn a_byte_has_its_line_and_column(rt: HostRuntime) {
     for (byte, line, column) in [
         (0, 1, 1),

@@ -32,6 +32,7 @@ fn not_built(alloc: Global, at: At) -> Result<Bytes, Memory>
 // What is written of a text that is a program with these tokens.
 fn built_or_not(alloc: Global, text: &[u8], tokens: &[Token]) -> Result<Bytes, Memory>
     requires few { length text.now ≤ TEXT_LIMIT }
+    requires ended { text.now ≡ bytes_of (lines_of text.now) }
     requires within { All (λ token. token.start < length text.now) tokens.now }
     ensures { IfOk result (λ bytes. bytes ≡ built_or_not (lines_of text.now) (departure empty_program tokens.now (length text.now))) }
 {
