@@ -78,7 +78,7 @@ moved_behind r m x y =
     let inner = subst (IsPermutation (m ++ (x ++ y))) (append_assoc x m y) (subst (λ l. IsPermutation l ((x ++ m) ++ y)) (append_assoc m x y) swapped) in
     subst (λ l. IsPermutation l (r ++ (x ++ (m ++ y)))) (sym (append_assoc r m (x ++ y))) (IsPermutation-append_right r (m ++ (x ++ y)) (x ++ (m ++ y)) inner)
 
-low_within : (tokens low : ℕ) (nested : List Nested) (trees : PlainTrees) → AreWhole tokens low nested trees → low ≤ tokens
+pub low_within : (tokens low : ℕ) (nested : List Nested) (trees : PlainTrees) → AreWhole tokens low nested trees → low ≤ tokens
 low_within tokens low [] NoTrees whole = whole
 low_within tokens low (n ∷ nested) NoTrees whole = elim whole [ ]
 low_within tokens low [] (Beside tree more) whole = elim whole [ ]
@@ -88,10 +88,10 @@ low_within tokens low (n ∷ nested) (Beside tree more) whole =
 
 -- of a block with a nested one, the own tokens up to its heading, and those behind it
 module _ (start : ℕ) (n : Nested) (nested : List Nested) (tree : PlainTree) (more : PlainTrees) where
-  index_near : (i : ℕ) → i ≤ n.semicolon → index_from start (n ∷ nested) (Beside tree more) i ≡ start + i
+  pub index_near : (i : ℕ) → i ≤ n.semicolon → index_from start (n ∷ nested) (Beside tree more) i ≡ start + i
   index_near i h = cond-true (nat_le i n.semicolon) (start + i) (index_from (start + tokens_of tree) nested more i) (le-leb i n.semicolon h)
 
-  index_far : (i : ℕ) → n.semicolon < i → index_from start (n ∷ nested) (Beside tree more) i ≡ index_from (start + tokens_of tree) nested more i
+  pub index_far : (i : ℕ) → n.semicolon < i → index_from start (n ∷ nested) (Beside tree more) i ≡ index_from (start + tokens_of tree) nested more i
   index_far i h = cond-false (nat_le i n.semicolon) (start + i) (index_from (start + tokens_of tree) nested more i) (lt-leb i n.semicolon h)
 
   own_tokens-split :

@@ -15,5 +15,7 @@ pub mod PlainHeadings
 pub mod PlainTrees
 pub mod Blocks
 pub mod WholeTrees
+pub mod SharedTrees
+pub mod TreeSizes
 pub mod BlocksExample
 pub mod Examples
