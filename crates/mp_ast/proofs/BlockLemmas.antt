@@ -78,7 +78,7 @@ moved_behind r m x y =
     let inner = subst (IsPermutation (m ++ (x ++ y))) (append_assoc x m y) (subst (λ l. IsPermutation l ((x ++ m) ++ y)) (append_assoc m x y) swapped) in
     subst (λ l. IsPermutation l (r ++ (x ++ (m ++ y)))) (sym (append_assoc r m (x ++ y))) (IsPermutation-append_right r (m ++ (x ++ y)) (x ++ (m ++ y)) inner)
 
-low_within : (tokens low : ℕ) (nested : List Nested) (trees : PlainTrees) → AreWhole tokens low nested trees → low ≤ tokens
+pub low_within : (tokens low : ℕ) (nested : List Nested) (trees : PlainTrees) → AreWhole tokens low nested trees → low ≤ tokens
 low_within tokens low [] NoTrees whole = whole
 low_within tokens low (n ∷ nested) NoTrees whole = elim whole [ ]
 low_within tokens low [] (Beside tree more) whole = elim whole [ ]

@@ -1,5 +1,5 @@
--- Within a block, each rule of the grammar goes on by as many ordinals as it reads tokens. One lemma for each way in which
--- rules are put together; the productions follow.
+-- Within a block, each rule of the grammar goes on by as many ordinals as it reads tokens, and begins no declaration. One
+-- lemma for each way in which rules are put together; the productions follow.
 use Rattle.std.proofs.Common.{◌≡◌, ℕ, zero, suc, ◌+◌, ◌≤◌, ◌⊎◌, inl, inr, List, [], ◌∷◌, length, refl, ap, ◌∙◌, subst, arith}
 use Rattle.mp_ast.specs.declared.tokens.TokenKind.{TokenKind}
 use Rattle.mp_ast.specs.Rules.{Input, Rule, ◌>>=◌, ◌<$>◌, ◌<|>◌, gives, none, optional, Many, no_more, one_more, many, many_lists, separated, token, here, not_before, opener}
@@ -9,6 +9,7 @@ use Rattle.mp_ast.specs.LeafGrammar.{identifier, number, character_string, sign,
 pub record Counted (i j : Input) : Type 0 where
   pub at : i.at ≤ j.at
   pub tokens : j.at + length j.rest ≡ i.at + length i.rest
+  pub declared : j.declared ≡ i.declared
 
 pub record Counts {A : Type 0} (r : Rule A) : Type 0 where
   pub counted : (i : Input) (x : A) (j : Input) → r i x j → Counted i j
@@ -16,13 +17,13 @@ pub record Counts {A : Type 0} (r : Rule A) : Type 0 where
 -- ---- places
 
 pub still : (i : Input) → Counted i i
-still i = record { at = omega arith; tokens = refl }
+still i = record { at = omega arith; tokens = refl; declared = refl }
 
 pub stands : (i j : Input) → i ≡ j → Counted i j
 stands i j e = subst (Counted i) e (still i)
 
 pub onward : (i m j : Input) → Counted i m → Counted m j → Counted i j
-onward i m j a b = record { at = omega (arith, a.at, b.at); tokens = b.tokens ∙ a.tokens }
+onward i m j a b = record { at = omega (arith, a.at, b.at); tokens = b.tokens ∙ a.tokens; declared = b.declared ∙ a.declared }
 
 -- ---- ways to put rules together
 
@@ -62,7 +63,7 @@ pub one : {k : TokenKind} → Counts (token k)
 one {k} = record {
   counted = λ i x j h.
       let read : length i.rest ≡ suc (length j.rest) = ap length h.0 in
-      record { at = omega (arith, h.2); tokens = omega (arith, h.2, read) };
+      record { at = omega (arith, h.2); tokens = omega (arith, h.2, read); declared = h.3 };
 }
 
 pub row : {A : Type 0} {separator : Rule ℕ} {r : Rule A} → Counts separator → Counts r → Counts (separated separator r)

@@ -3,6 +3,7 @@ pub mod PlainStatementLemmas
 pub mod PlainTypeLemmas
 pub mod PlainHeadingLemmas
 pub mod PlainTreeLemmas
+pub mod SharedLemmas
 pub mod BlockLemmas
 pub mod PlainExpressionInverse
 pub mod PlainStatementInverse

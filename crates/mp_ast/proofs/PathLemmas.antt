@@ -46,7 +46,7 @@ later_differ name nth earlier (d ∷ ds) h =
       later_differ name nth (other ∷ earlier) ds (let l = count_later name other earlier in omega (arith, h, l)),
     )
 
-steps_differ : (earlier : List (List ℕ)) (ds : List PlainDeclaration) → IsDistinct (λ m n. same_step m.step n.step) (nested_after earlier ds)
+pub steps_differ : (earlier : List (List ℕ)) (ds : List PlainDeclaration) → IsDistinct (λ m n. same_step m.step n.step) (nested_after earlier ds)
 unfolding IsDistinct
 steps_differ earlier [] = tt
 steps_differ earlier (d ∷ ds) =
@@ -57,19 +57,19 @@ steps_differ earlier (d ∷ ds) =
 
 -- ---- paths
 
-same_prefix : (p a b : List PathStep) → same_path (p ++ a) (p ++ b) ≡ same_path a b
+pub same_prefix : (p a b : List PathStep) → same_path (p ++ a) (p ++ b) ≡ same_path a b
 same_prefix [] a b = refl
 same_prefix (s ∷ p) a b =
     ap (λ x. (x && nat_eq s.nth s.nth) && same_path (p ++ a) (p ++ b)) (same_bytes s.name) ∙
     ap (λ x. x && same_path (p ++ a) (p ++ b)) (eq-eqb s.nth s.nth refl) ∙ same_prefix p a b
 
-not_longer : (p : List PathStep) (s : PathStep) (r : List PathStep) → same_path p (p ++ s ∷ r) ≡ false
+pub not_longer : (p : List PathStep) (s : PathStep) (r : List PathStep) → same_path p (p ++ s ∷ r) ≡ false
 not_longer [] s r = refl
 not_longer (t ∷ p) s r =
     ap (λ x. (x && nat_eq t.nth t.nth) && same_path p (p ++ s ∷ r)) (same_bytes t.name) ∙
     ap (λ x. x && same_path p (p ++ s ∷ r)) (eq-eqb t.nth t.nth refl) ∙ not_longer p s r
 
-other_step : (p : List PathStep) (s t : PathStep) (a b : List PathStep) → same_step s t ≡ false → same_path (p ++ s ∷ a) (p ++ t ∷ b) ≡ false
+pub other_step : (p : List PathStep) (s t : PathStep) (a b : List PathStep) → same_step s t ≡ false → same_path (p ++ s ∷ a) (p ++ t ∷ b) ≡ false
 other_step p s t a b e = same_prefix p (s ∷ a) (t ∷ b) ∙ ap (λ x. x && same_path a b) e
 
 -- ---- lists
@@ -79,7 +79,7 @@ module _ {X : Type 0} where
   all-append P [] ys a b = b
   all-append P (x ∷ xs) ys a b = (a.0, all-append P xs ys a.1 b)
 
-  all-map : (P Q : X → Type 0) → ((x : X) → P x → Q x) → (xs : List X) → AllByRecursion P xs → AllByRecursion Q xs
+  pub all-map : (P Q : X → Type 0) → ((x : X) → P x → Q x) → (xs : List X) → AllByRecursion P xs → AllByRecursion Q xs
   all-map P Q f [] a = tt
   all-map P Q f (x ∷ xs) a = (f x a.0, all-map P Q f xs a.1)
 
@@ -93,11 +93,11 @@ module _ {X : Type 0} where
 -- ---- blocks
 
 -- the path goes on from this one
-abbrev GoesOn : List PathStep → PlacedBlock → Type 0
+abbrev pub GoesOn : List PathStep → PlacedBlock → Type 0
 GoesOn path b = (r : List PathStep) × (b.path ≡ path ++ r)
 
 -- the path goes on by the step to a nested block that is not `left` out
-abbrev GoesInto : (Nested → Bool) → List PathStep → PlacedBlock → Type 0
+abbrev pub GoesInto : (Nested → Bool) → List PathStep → PlacedBlock → Type 0
 GoesInto left path b = (n : Nested) × (left n ≡ false) × (r : List PathStep) × (b.path ≡ path ++ n.step ∷ r)
 
 abbrev no_block : Nested → Bool
@@ -108,14 +108,14 @@ any [] = tt
 any (n ∷ nested) = (refl, any nested)
 
 mutual
-  from_goes_on : (path : List PathStep) (start : ℕ) (tree : PlainTree) → AllByRecursion (GoesOn path) (blocks_from path start tree)
+  pub from_goes_on : (path : List PathStep) (start : ℕ) (tree : PlainTree) → AllByRecursion (GoesOn path) (blocks_from path start tree)
   from_goes_on path start (TreeOf own inside) = (
     ([], sym (append-nil path)),
     all-map (GoesInto no_block path) (GoesOn path) (λ b g. (g.0.step ∷ g.2, g.3)) (blocks_inside path start (nested_in own) inside)
         (inside_goes_into no_block path start (nested_in own) inside (any (nested_in own))),
   )
 
-  inside_goes_into :
+  pub inside_goes_into :
       (left : Nested → Bool) (path : List PathStep) (start : ℕ) (nested : List Nested) (trees : PlainTrees) →
       AllByRecursion (λ n. left n ≡ false) nested → AllByRecursion (GoesInto left path) (blocks_inside path start nested trees)
   inside_goes_into left path start nested NoTrees a = tt

@@ -20,6 +20,8 @@ pub mod WellFormed
 pub mod Leaves
 pub mod LeavesOfBlocks
 pub mod LeavesInText
+pub mod SharedTrees
+pub mod TreeSizes
 pub mod BlocksExample
 pub mod Examples
 pub mod ProductionExamples

@@ -128,7 +128,7 @@ impl BlockTree {
 }
 
 /// The tree of a block with those of the blocks in it, in order of text. The tree of the program's block is that of
-/// the program.
+/// the program. Code has it as a `SharedTree`, which is this one to a contract.
 #[derive(Drop)]
 pub struct Tree {
     pub own: BlockTree,

@@ -1,5 +1,5 @@
 // What the definitions of this crate promise: each function's contract is one law of them.
-ghost use Rattle.std.specs.Prelude.{◌≡◌, ℕ, Bool, List, [], ◌∷◌, Option, Some, None, length, map, codes};
+ghost use Rattle.std.specs.Prelude.{◌≡◌, ◌≤◌, ℕ, Bool, List, [], ◌∷◌, Option, Some, None, length, map, codes};
 ghost use Rattle.std.specs.List.{AllByRecursion};
 ghost use Rattle.mp_ast.specs.declared.tokens.TokenKind.{TokenKind};
 ghost use Rattle.mp_ast.specs.declared.leaves.Identifier.{Identifier};
@@ -31,8 +31,8 @@ ghost use Rattle.mp_ast.specs.LeafGrammar as leaf_rule;
 ghost use Rattle.mp_ast.specs.ExpressionGrammar as expression_rule;
 ghost use Rattle.mp_ast.specs.StatementGrammar as statement_rule;
 ghost use Rattle.mp_ast.specs.TypeGrammar as type_rule;
-ghost use Rattle.mp_ast.specs.BlockGrammar.{Limits};
-ghost use Rattle.mp_ast.specs.Programs.{Derives};
+ghost use Rattle.mp_ast.specs.BlockGrammar.{Limits, program};
+ghost use Rattle.mp_ast.specs.Programs.{Derives, start_of};
 ghost use Rattle.mp_ast.specs.PlainExpressions.{PlainExpr, selectors_of, members_of, operations_of, plain_expr, plain_access, plain_actuals};
 ghost use Rattle.mp_ast.specs.PlainStatements.{PlainStatement, arms_of, plain_head, plain_statement, plain_statements};
 ghost use Rattle.mp_ast.specs.PlainTypes.{PlainDenoter, indices_of, variants_of, plain_denoter, plain_sections};
@@ -42,6 +42,7 @@ ghost use Rattle.mp_ast.specs.FirstTokens.{first_of_constant, first_of_access, f
 ghost use Rattle.mp_ast.specs.Blocks.{tokens_of, blocks, own_tokens, index_of, token_position, PathsDiffer, EachIsAtItsPath, position};
 ghost use Rattle.mp_ast.specs.WholeTrees.{IsWhole, TokensAddUp, EachTokenHasABlock};
 ghost use Rattle.mp_ast.specs.WellFormed.{IsWellFormed, FitsItsPath};
+ghost use Rattle.mp_ast.specs.SharedTrees.{node, own_of, inside_of, declarations_of};
 ghost use Rattle.mp_ast.specs.BlocksExample as example;
 ghost use Rattle.mp_ast.specs.BlocksExample.{step, place};
 
@@ -141,6 +142,19 @@ pub fn trees_of_programs_are_whole()
 pub fn blocks_of_programs_are_well_formed()
     ensures headings { (limits : Limits) (kinds : List TokenKind) (tree : Tree) → Derives limits kinds tree → AllByRecursion (λ block. FitsItsPath block.path block.own.program) (blocks (plain_tree tree)) }
     ensures own_trees { (limits : Limits) (kinds : List TokenKind) (tree : Tree) → Derives limits kinds tree → AllByRecursion (λ block. IsWellFormed block.own) (blocks (plain_tree tree)) }
+{}
+
+/// In a program's tree stand as many declarations as the grammar has counted, and no more than it allows.
+pub fn declarations_of_programs()
+    ensures number { (limits : Limits) (kinds : List TokenKind) (tree : Tree) (j : Input) → program limits (start_of kinds) tree j → declarations_of (plain_tree tree) ≡ j.declared }
+    ensures few { (limits : Limits) (kinds : List TokenKind) (tree : Tree) → Derives limits kinds tree → declarations_of (plain_tree tree) ≤ limits.declarations }
+{}
+
+/// A tree is a node of its parts, and the parts of a node are what it was made of.
+pub fn nodes_have_parts()
+    ensures parts { (tree : Tree) → node (own_of tree) (inside_of tree) ≡ tree }
+    ensures own { (own : Block) (inside : List Tree) → own_of (node own inside) ≡ own }
+    ensures inside { (own : Block) (inside : List Tree) → inside_of (node own inside) ≡ inside }
 {}
 
 /// Each block of a tree has a path of its own, by which it is found.

@@ -6,11 +6,12 @@
 //! plain data, which blocks a tree has, where in the text the own tokens of each stand, which token is the first of each
 //! part, and what no program has although a tree's type allows it. It is data alone: it never lexes, parses or prints.
 //! It promises how each word-symbol is written, that its lists are lists, that a block's own tree has at most 262,144
-//! tokens, which token a part of a tree begins with, and that two own trees, or two parts of one kind, are told to be
-//! the same exactly where they are; and of its definitions (`laws`), that nothing of a tree is lost in plain data, that
-//! each block has a path of its own, that each token of a program is an own token of exactly one block, that each part
-//! of a program begins at its first token, and that each block of a program is well-formed. `examples` has each
-//! production of the grammar once. It stands on `mp_base`.
+//! tokens, that a tree which is kept whole knows how many tokens and declarations it has in all, whatever it shares,
+//! which token a part of a tree begins with, and that two own trees, or two parts of one kind, are told to be the same
+//! exactly where they are; and of its definitions (`laws`), that nothing of a tree is lost in plain data, that each
+//! block has a path of its own, that each token of a program is an own token of exactly one block, that its tree has
+//! the declarations that the grammar counts, that each part of a program begins at its first token, and that each block
+//! of a program is well-formed. `examples` has each production of the grammar once. It stands on `mp_base`.
 #![tactic(auto)]
 
 mod blocks;
@@ -22,6 +23,7 @@ mod headings;
 pub mod laws;
 mod leaves;
 mod lexed;
+mod shared;
 mod statements;
 mod symbols;
 mod tokens;
@@ -38,6 +40,7 @@ pub use expressions::{Access, Actual, Expr, Member, Operation, Operator, Selecto
 pub use headings::{FormalSection, HeadingKind, HeadingTree};
 pub use leaves::{CharacterString, Constant, Identifier, Number, Sign, SignKind};
 pub use lexed::Lexed;
+pub use shared::SharedTree;
 pub use statements::{Arm, Direction, ForHead, Statement};
 pub use symbols::Symbol;
 pub use tokens::{Token, TokenKind, Tokens};
