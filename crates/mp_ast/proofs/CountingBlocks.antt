@@ -256,8 +256,7 @@ whole_tree most i own inside j x from r e =
     let tokens = r.tokens in
     let begins = r.begins in
     let number = length-map own.declarations plain_declaration in
-    subst (λ t. (length j.rest + tokens_of t ≡ length i.rest) × IsWhole t × Begins most i (declarations_of t) j) same
-    (
+    subst (λ t. (length j.rest + tokens_of t ≡ length i.rest) × IsWhole t × Begins most i (declarations_of t) j) same (
       omega (arith, from, last, tokens),
       r.whole own.tokens (omega (arith, last)),
       record { declared = omega (arith, begins.declared, number); few = begins.few },
