@@ -75,11 +75,11 @@ other_step p s t a b e = same_prefix p (s ∷ a) (t ∷ b) ∙ ap (λ x. x && sa
 -- ---- lists
 
 module _ {X : Type 0} where
-  all-append : (P : X → Type 0) (xs ys : List X) → AllByRecursion P xs → AllByRecursion P ys → AllByRecursion P (xs ++ ys)
+  pub all-append : (P : X → Type 0) (xs ys : List X) → AllByRecursion P xs → AllByRecursion P ys → AllByRecursion P (xs ++ ys)
   all-append P [] ys a b = b
   all-append P (x ∷ xs) ys a b = (a.0, all-append P xs ys a.1 b)
 
-  all-map : (P Q : X → Type 0) → ((x : X) → P x → Q x) → (xs : List X) → AllByRecursion P xs → AllByRecursion Q xs
+  pub all-map : (P Q : X → Type 0) → ((x : X) → P x → Q x) → (xs : List X) → AllByRecursion P xs → AllByRecursion Q xs
   all-map P Q f [] a = tt
   all-map P Q f (x ∷ xs) a = (f x a.0, all-map P Q f xs a.1)
 

@@ -18,5 +18,7 @@ pub mod WholeTrees
 pub mod Leaves
 pub mod LeavesOfBlocks
 pub mod LeavesInText
+pub mod Places
+pub mod LeavesExample
 pub mod BlocksExample
 pub mod Examples

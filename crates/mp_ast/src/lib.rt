@@ -18,6 +18,7 @@ mod headings;
 mod laws;
 mod leaves;
 mod lexed;
+mod ordinal_laws;
 mod statements;
 mod symbols;
 mod tokens;
@@ -42,6 +43,9 @@ pub use laws::{
 };
 pub use leaves::{CharacterString, Constant, Identifier, Number, Sign, SignKind};
 pub use lexed::Lexed;
+pub use ordinal_laws::{
+    indices_rise_with_ordinals, leaves_of_an_example, places_of_tokens, trees_tell_of_their_tokens,
+};
 pub use statements::{Arm, Direction, ForHead, Statement};
 pub use symbols::Symbol;
 pub use tokens::{Token, TokenKind, Tokens};
