@@ -1,8 +1,9 @@
--- The indices in the text of a block's own tokens rise with their ordinals.
-use Rattle.std.proofs.Common.{ℕ, ◌+◌, ◌≤◌, ◌<◌, ⊎_elim, List, [], ◌∷◌, arith}
+-- The indices in the text of a block's own tokens rise with their ordinals; and a test as a number, by which lists are
+-- counted.
+use Rattle.std.proofs.Common.{◌≡◌, ℕ, ◌+◌, ◌≤◌, ◌<◌, ⊎_elim, Bool, true, false, cond, List, [], ◌∷◌, ap, arith}
 use Rattle.std.proofs.lemmas.Bool.{cases_lt}
-use Rattle.mp_ast.specs.PlainTrees.{PlainTree, PlainTrees, NoTrees, Beside}
-use Rattle.mp_ast.specs.Blocks.{Nested, PlacedBlock, nested_in, tokens_of, index_from, index_in}
+use Rattle.mp_ast.specs.PlainTrees.{PlainTrees, NoTrees, Beside}
+use Rattle.mp_ast.specs.Blocks.{Nested, PlacedBlock, nested_in, tokens_of, index_from}
 use Rattle.mp_ast.specs.LeavesInText.{IndicesRise}
 use Rattle.mp_ast.proofs.BlockLemmas.{index_near, index_far}
 
@@ -32,3 +33,14 @@ index_from_rises start (x ∷ nested) (Beside tree more) m n h =
 
 pub indices_rise : (block : PlacedBlock) → IndicesRise block
 indices_rise block m n h = index_from_rises block.start (nested_in block.own) block.inside m n h
+
+-- ---- tests as numbers
+
+abbrev pub number : Bool → ℕ
+number b = cond b 1 0
+
+pub yes_one : {b : Bool} → b ≡ true → number b ≡ 1
+yes_one e = ap number e
+
+pub not_zero : {b : Bool} → b ≡ false → number b ≡ 0
+not_zero e = ap number e

@@ -1,13 +1,12 @@
 -- What the rules of headings read is told by the leaves of the headings that they make.
-use Rattle.std.proofs.Common.{◌≡◌, ℕ, zero, suc, List, [], ◌∷◌, ◌++◌, Option, Some, None, refl, sym, ap, ◌∙◌}
+use Rattle.std.proofs.Common.{ℕ, zero, suc, List, [], ◌∷◌, refl, sym, ap}
 use Rattle.std.proofs.lemmas.List.{append-nil}
 use Rattle.mp_ast.specs.declared.tokens.TokenKind.TheVariants as kind
 use Rattle.mp_ast.specs.declared.words.WordSymbol.TheVariants as w
-use Rattle.mp_ast.specs.declared.leaves.Identifier.{Identifier}
 use Rattle.mp_ast.specs.declared.headings.FormalSection.{FormalSection}
 use Rattle.mp_ast.specs.declared.headings.HeadingTree.{HeadingTree}
 use Rattle.mp_ast.specs.Rules.{optional}
-use Rattle.mp_ast.specs.HeadingGrammar.{result_type, formal, formals_behind, formals, heading}
+use Rattle.mp_ast.specs.HeadingGrammar.{result_type, formals_behind, formals, heading}
 use Rattle.mp_ast.specs.PlainHeadings.{formals_of, plain_formal_section, plain_heading}
 use Rattle.mp_ast.specs.Leaves.{Leaf, Mark, Name}
 use Rattle.mp_ast.specs.LeavesOfBlocks.{leaves_of_tag, leaves_of_formal, leaves_of_formals, leaves_of_heading}

@@ -12,7 +12,7 @@ use Rattle.mp_ast.specs.declared.statements.Statement.TheVariants as t
 use Rattle.mp_ast.specs.Rules.{Rule, ◌<|>◌}
 use Rattle.mp_ast.specs.StatementGrammar.{Deeper, behind, sequence, arm, else_part, upward, downward, for_head, unlabelled, statement_with}
 use Rattle.mp_ast.specs.PlainExpressions.{plain_access}
-use Rattle.mp_ast.specs.PlainStatements.{statements_of, arms_of, plain_head, plain_statement, plain_statements}
+use Rattle.mp_ast.specs.PlainStatements.{arms_of, plain_head, plain_statement, plain_statements}
 use Rattle.mp_ast.specs.Leaves.{Leaf, Mark, leaves_of_constants}
 use Rattle.mp_ast.specs.LeavesOfBlocks.{leaves_of_records, leaves_of_head, leaves_of_statement, leaves_of_statements, leaves_of_arms}
 use Rattle.mp_ast.proofs.PlainStatementLemmas.{plain_statement-Labelled, plain_statement-Empty, plain_statement-Assign, plain_statement-Call, plain_statement-Goto, plain_statement-Compound, plain_statement-If, plain_statement-IfElse, plain_statement-Case, plain_statement-While, plain_statement-Repeat, plain_statement-For, plain_statement-With}

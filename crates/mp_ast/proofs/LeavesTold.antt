@@ -6,8 +6,6 @@ use Rattle.std.proofs.lemmas.List.{length-append, append-nil}
 use Rattle.mp_ast.specs.declared.tokens.TokenKind.{TokenKind}
 use Rattle.mp_ast.specs.declared.tokens.TokenKind.TheVariants as kind
 use Rattle.mp_ast.specs.declared.symbols.Symbol.TheVariants as s
-use Rattle.mp_ast.specs.declared.leaves.Constant.{Constant}
-use Rattle.mp_ast.specs.declared.leaves.Sign.{Sign}
 use Rattle.mp_ast.specs.Rules.{Input, Rule, ◌>>=◌, ◌<$>◌, ◌<|>◌, gives, none, optional, Many, no_more, one_more, many, many_lists, joined, separated, token, here, not_before, opener}
 use Rattle.mp_ast.specs.LeafGrammar.{identifier, number, character_string, sign, constant}
 use Rattle.mp_ast.specs.Leaves.{Leaf, Name, Forward, Mark, Bracket, Before, ordinal_of, has_token, is_identifier_token, Fits, number_leaf, string_leaf, leaves_of_sign, leaves_of_constant, leaves_of_constants, leaves_of_names}

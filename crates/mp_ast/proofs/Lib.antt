@@ -43,3 +43,8 @@ pub mod LeavesOfExpressions
 pub mod LeavesOfStatements
 pub mod LeavesOfTypes
 pub mod LeavesOfHeadings
+pub mod LeavesSpelled
+pub mod LeavesOfBlocks
+pub mod LeavesPlaced
+pub mod LeavesLaws
+pub mod PlaceLemmas

@@ -75,7 +75,7 @@ other_step p s t a b e = same_prefix p (s ∷ a) (t ∷ b) ∙ ap (λ x. x && sa
 -- ---- lists
 
 module _ {X : Type 0} where
-  all-append : (P : X → Type 0) (xs ys : List X) → AllByRecursion P xs → AllByRecursion P ys → AllByRecursion P (xs ++ ys)
+  pub all-append : (P : X → Type 0) (xs ys : List X) → AllByRecursion P xs → AllByRecursion P ys → AllByRecursion P (xs ++ ys)
   all-append P [] ys a b = b
   all-append P (x ∷ xs) ys a b = (a.0, all-append P xs ys a.1 b)
 

@@ -114,7 +114,7 @@ PathsDiffer program = IsDistinct (λ a b. same_path a.path b.path) (blocks progr
 abbrev pub EachIsAtItsPath : PlainTree → Type 0
 EachIsAtItsPath program = AllByRecursion (λ block. block_at program block.path ≡ Some block) (blocks program)
 
-abbrev own_index : PlacedBlock → ℕ → Option ℕ
+abbrev pub own_index : PlacedBlock → ℕ → Option ℕ
 own_index block ordinal = if nat_lt ordinal block.own.tokens then Some (index_in block ordinal) else None
 
 -- the index in the text of the token at a place, where there is one

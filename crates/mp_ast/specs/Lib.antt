@@ -22,6 +22,8 @@ pub mod LeavesOfBlocks
 pub mod LeavesInText
 pub mod SharedTrees
 pub mod TreeSizes
+pub mod Places
+pub mod LeavesExample
 pub mod BlocksExample
 pub mod Examples
 pub mod ProductionExamples

@@ -11,7 +11,8 @@
 //! exactly where they are; and of its definitions (`laws`), that nothing of a tree is lost in plain data, that each
 //! block has a path of its own, that each token of a program is an own token of exactly one block, that its tree has
 //! the declarations that the grammar counts, that each part of a program begins at its first token, and that each block
-//! of a program is well-formed. `examples` has each production of the grammar once. It stands on `mp_base`.
+//! of a program is well-formed; and (`ordinal_laws`) that each token which a tree tells of stands where the tree says.
+//! `examples` has each production of the grammar once. It stands on `mp_base`.
 #![tactic(auto)]
 
 mod blocks;
@@ -23,6 +24,7 @@ mod headings;
 pub mod laws;
 mod leaves;
 mod lexed;
+pub mod ordinal_laws;
 mod shared;
 mod statements;
 mod symbols;
