@@ -3,3 +3,4 @@ pub mod LineLemmas
 pub mod PlaceLemmas
 pub mod RefusalLemmas
 pub mod VersionLemmas
+pub mod EditLaws

@@ -1,3 +1,4 @@
 pub mod Edits
 pub mod Versions
 pub mod Refusals
+pub mod Meant
