@@ -88,17 +88,17 @@ made_of_parts none first last keep from items list k f low high =
       count = omega (arith, length-append front (items ++ behind), length-append items behind, len, rest, k, f, low, high);
       before = λ n one lt. get_or_append_left front (items ++ behind) none (n - 1) (omega (arith, len, k, one, lt)) ∙ get_or-take keep list (n - 1) none (omega (arith, k, one, lt));
       new = λ n one le.
-        let at : first - 1 + n - 1 - keep ≡ n - 1 = omega (arith, k, one) in
-        get_or-append_right front (items ++ behind) keep (first - 1 + n - 1) none len (omega (arith, k, one))
-        ∙ ap (λ i. get_or (items ++ behind) i none) at
-        ∙ get_or_append_left items behind none (n - 1) (omega (arith, one, le));
+          let at : first - 1 + n - 1 - keep ≡ n - 1 = omega (arith, k, one) in
+          get_or-append_right front (items ++ behind) keep (first - 1 + n - 1) none len (omega (arith, k, one))
+          ∙ ap (λ i. get_or (items ++ behind) i none) at
+          ∙ get_or_append_left items behind none (n - 1) (omega (arith, one, le));
       behind = λ n lt le.
-        let place = n + length items - (last + 1 - first) - 1 in
-        let at : from + (place - keep - length items) ≡ n - 1 = omega (arith, k, f, low, lt) in
-        get_or-append_right front (items ++ behind) keep place none len (omega (arith, k, f, low, lt))
-        ∙ get_or-append_right items behind (length items) (place - keep) none refl (omega (arith, k, f, low, lt))
-        ∙ get_or-drop from list (place - keep - length items) none
-        ∙ ap (λ i. get_or list i none) at;
+          let place = n + length items - (last + 1 - first) - 1 in
+          let at : from + (place - keep - length items) ≡ n - 1 = omega (arith, k, f, low, lt) in
+          get_or-append_right front (items ++ behind) keep place none len (omega (arith, k, f, low, lt))
+          ∙ get_or-append_right items behind (length items) (place - keep) none refl (omega (arith, k, f, low, lt))
+          ∙ get_or-drop from list (place - keep - length items) none
+          ∙ ap (λ i. get_or list i none) at;
     }
 
 -- two lists that are made so are the same, item by item
@@ -136,9 +136,9 @@ one_made none first last items list made other h k one order ends = ext_get_or n
     same i lt = ⊎_elim
         (λ (before : i + 1 < first). same_before none first last items list made other h k i before)
         (λ (low : first ≤ i + 1). ⊎_elim
-            (λ (new : i + 1 < first + length items). same_new none first last items list made other h k one i low new)
-            (λ (behind : first + length items ≤ i + 1). same_behind none first last items list made other h k one order ends i behind lt)
-            (cases_lt (i + 1) (first + length items)))
+        (λ (new : i + 1 < first + length items). same_new none first last items list made other h k one i low new)
+        (λ (behind : first + length items ≤ i + 1). same_behind none first last items list made other h k one order ends i behind lt)
+        (cases_lt (i + 1) (first + length items)))
         (cases_lt (i + 1) first)
 
 made_insert : (after : ℕ) (lines text : List (List ℕ)) → after ≤ length text → IsMade (edit.Insert after lines) text (edited (edit.Insert after lines) text)
@@ -258,6 +258,7 @@ sized (edit.Replace first last lines) text h = (counted_lines first last lines t
 sized (edit.Sub line column count bytes) text h =
     let old = line_at text line in
     let new = substituted column count bytes old in
-    let range = sub_ranges line text h.0 h.1 in
-    (omega (arith, counted_lines line line (new ∷ []) text range),
-    omega (arith, sized_lines line line (new ∷ []) text range, one_line_from line text h.0 h.1, size_line new, substituted_length column count bytes old h.2 h.3))
+    let range = sub_ranges line text h.0 h.1 in (
+      omega (arith, counted_lines line line (new ∷ []) text range),
+      omega (arith, sized_lines line line (new ∷ []) text range, one_line_from line text h.0 h.1, size_line new, substituted_length column count bytes old h.2 h.3),
+    )
