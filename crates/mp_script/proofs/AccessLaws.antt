@@ -1,37 +1,37 @@
 -- The test of an access's form tells what it should.
 use Rattle.std.proofs.Common.{◌≡◌, true, false, List, [], ◌∷◌, ◌++◌, refl, ap, sym, ◌∙◌, append_assoc}
-use Rattle.mp_script.specs.declared.access.Part.{Part}
-use Rattle.mp_script.specs.declared.access.Part.TheVariants as part
+use Rattle.mp_script.specs.declared.access.AccessPart.{AccessPart}
+use Rattle.mp_script.specs.declared.access.AccessPart.TheVariants as part
 use Rattle.mp_script.specs.declared.access.Stage.{Stage}
 use Rattle.mp_script.specs.declared.access.Stage.TheVariants as stage
 use Rattle.mp_script.specs.Access.{Index, Number, Signed, Char, Name, Selector, Indexed, Field, Pointed, IsAccess, IsFormTested, after, completes, have_form, is_complete, parts_of_index, parts_of_more, parts_of_selectors}
 
 -- what completes an access, by what may come next
-record AreSelectors (parts : List Part) : Type 0 where
+record AreSelectors (parts : List AccessPart) : Type 0 where
   selectors : List Selector
   all : parts ≡ parts_of_selectors selectors
 
-record IsField (parts : List Part) : Type 0 where
+record IsField (parts : List AccessPart) : Type 0 where
   selectors : List Selector
   all : parts ≡ part.Name ∷ parts_of_selectors selectors
 
-record AreIndexes (parts : List Part) : Type 0 where
+record AreIndexes (parts : List AccessPart) : Type 0 where
   index : Index
   more : List Index
   selectors : List Selector
   all : parts ≡ parts_of_index index ++ (parts_of_more more ++ (part.Close ∷ parts_of_selectors selectors))
 
-record IsNumber (parts : List Part) : Type 0 where
+record IsNumber (parts : List AccessPart) : Type 0 where
   more : List Index
   selectors : List Selector
   all : parts ≡ part.Number ∷ (parts_of_more more ++ (part.Close ∷ parts_of_selectors selectors))
 
-record AreClosed (parts : List Part) : Type 0 where
+record AreClosed (parts : List AccessPart) : Type 0 where
   more : List Index
   selectors : List Selector
   all : parts ≡ parts_of_more more ++ (part.Close ∷ parts_of_selectors selectors)
 
-abbrev Completes : Stage → List Part → Type 0
+abbrev Completes : Stage → List AccessPart → Type 0
 Completes stage.Start parts = IsAccess parts
 Completes stage.Selectors parts = AreSelectors parts
 Completes stage.Field parts = IsField parts
@@ -40,10 +40,10 @@ Completes stage.Number parts = IsNumber parts
 Completes stage.Close parts = AreClosed parts
 Completes stage.Wrong parts = ⊥
 
-regrouped : (a b c : List Part) → a ++ (b ++ (part.Close ∷ c)) ≡ (a ++ (b ++ (part.Close ∷ []))) ++ c
+regrouped : (a b c : List AccessPart) → a ++ (b ++ (part.Close ∷ c)) ≡ (a ++ (b ++ (part.Close ∷ []))) ++ c
 regrouped a b c = ap (λ t. a ++ t) (sym (append_assoc b (part.Close ∷ []) c)) ∙ sym (append_assoc a (b ++ (part.Close ∷ [])) c)
 
-one_more : (s : Stage) (p : Part) (parts : List Part) → Completes (after s p) parts → Completes s (p ∷ parts)
+one_more : (s : Stage) (p : AccessPart) (parts : List AccessPart) → Completes (after s p) parts → Completes s (p ∷ parts)
 unfolding parts_of_more parts_of_selectors
 one_more stage.Start part.Name parts m = record { selectors = m.selectors; all = ap (λ t. part.Name ∷ t) m.all }
 one_more stage.Start part.Number parts m = absurd m
@@ -126,19 +126,19 @@ no_more stage.Number e = let f : false ≡ true = e in absurd (cc)
 no_more stage.Close e = let f : false ≡ true = e in absurd (cc)
 no_more stage.Wrong e = let f : false ≡ true = e in absurd (cc)
 
-completed : (parts : List Part) (s : Stage) → completes s parts ≡ true → Completes s parts
+completed : (parts : List AccessPart) (s : Stage) → completes s parts ≡ true → Completes s parts
 unfolding completes
 completed [] s e = no_more s e
 completed (p ∷ parts) s e = one_more s p parts (completed parts (after s p) e)
 
-index_read : (index : Index) (parts : List Part) → completes stage.Index (parts_of_index index ++ parts) ≡ completes stage.Close parts
+index_read : (index : Index) (parts : List AccessPart) → completes stage.Index (parts_of_index index ++ parts) ≡ completes stage.Close parts
 unfolding completes
 index_read Number parts = refl
 index_read Signed parts = refl
 index_read Char parts = refl
 index_read Name parts = refl
 
-more_read : (more : List Index) (parts : List Part) → completes stage.Close (parts_of_more more ++ parts) ≡ completes stage.Close parts
+more_read : (more : List Index) (parts : List AccessPart) → completes stage.Close (parts_of_more more ++ parts) ≡ completes stage.Close parts
 unfolding completes parts_of_more
 more_read [] parts = refl
 more_read (index ∷ more) parts = ap (completes stage.Index) (append_assoc (parts_of_index index) (parts_of_more more) parts) ∙ index_read index (parts_of_more more ++ parts) ∙ more_read more parts
@@ -152,9 +152,9 @@ selectors_read (Indexed index more ∷ selectors) =
     let rest = parts_of_selectors selectors in
     ap (completes stage.Index) (sym (regrouped (parts_of_index index) (parts_of_more more) rest)) ∙ index_read index (parts_of_more more ++ (part.Close ∷ rest)) ∙ more_read more (part.Close ∷ rest) ∙ selectors_read selectors
 
-access_read : (parts : List Part) → IsAccess parts → have_form parts ≡ true
+access_read : (parts : List AccessPart) → IsAccess parts → have_form parts ≡ true
 unfolding completes
 access_read parts h = ap have_form h.all ∙ selectors_read h.selectors
 
-pub form_tested : (parts : List Part) → IsFormTested parts
+pub form_tested : (parts : List AccessPart) → IsFormTested parts
 form_tested parts = ((λ e. completed parts stage.Start e), (λ h. access_read parts h))

@@ -194,11 +194,13 @@ no_separator : (b : ℕ) → is_word_byte b ≡ true → is_separator b ≡ fals
 no_separator b h = elim (is_separator b) as (λ v. not v ≡ true → v ≡ false) [ true ↦ λ k. let f : false ≡ true = k in absurd (cc) | false ↦ λ k. refl ] h
 
 -- a word, or none, and what stands behind it
-found_behind : (word between found after : List ℕ) → IsTrue (list_all is_word_byte word) → IsTrue (ends_word (between ++ (found ++ after))) → (word ≡ [] → found ≡ []) → AreSeparators between → AreSeparators after → IsTrimmed found
+found_behind : (word between found after : List ℕ) → IsTrue (list_all is_word_byte word)
+    → IsTrue (ends_word (between ++ (found ++ after))) → (word ≡ [] → found ≡ []) → AreSeparators between → AreSeparators after → IsTrimmed found
     → without_end (behind is_separator (behind is_word_byte (behind is_separator (word ++ (between ++ (found ++ after)))))) ≡ found
 found_behind [] between found after l e first b a t =
     let none = first refl in
-    let rest : behind is_separator (between ++ (found ++ after)) ≡ [] = ap (λ f. behind is_separator (between ++ (f ++ after))) none ∙ run_left is_separator between after b ∙ none_left is_separator after a in
+    let bare = ap (λ f. behind is_separator (between ++ (f ++ after))) none in
+    let rest : behind is_separator (between ++ (found ++ after)) ≡ [] = bare ∙ run_left is_separator between after b ∙ none_left is_separator after a in
     none_found _ rest ∙ sym none
 found_behind (x ∷ word) between found after l e first b a t =
     let rest = between ++ (found ++ after) in
@@ -206,7 +208,8 @@ found_behind (x ∷ word) between found after l e first b a t =
     let one = stays is_separator (x ∷ (word ++ rest)) (no_separator x letter.0) in
     let two = run_left is_word_byte (x ∷ word) rest l ∙ stays is_word_byte rest (word_over rest e) in
     let three = run_left is_separator between (found ++ after) b in
-    ap (λ t. without_end (behind is_separator (behind is_word_byte t))) one ∙ ap (λ t. without_end (behind is_separator t)) two ∙ ap without_end three ∙ only_trimmed found after t a
+    ap (λ t. without_end (behind is_separator (behind is_word_byte t))) one ∙ ap (λ t. without_end (behind is_separator t)) two
+    ∙ ap without_end three ∙ only_trimmed found after t a
 
 only_behind : (line found : List ℕ) → IsBehindWord line found → found ≡ behind_word line
 unfolding behind_word

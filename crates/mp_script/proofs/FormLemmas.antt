@@ -3,11 +3,11 @@ use Rattle.std.proofs.Common.{◌≡◌, ◌<◌, ◌≤◌, ◌+◌, ℕ, suc, 
 use Rattle.std.proofs.Math.Seq.{drop-cons}
 use Rattle.std.proofs.lemmas.List.{drop_all}
 use Rattle.mp_ast.specs.declared.tokens.Token.{Token}
-use Rattle.mp_script.specs.declared.access.Part.{Part}
+use Rattle.mp_script.specs.declared.access.AccessPart.{AccessPart}
 use Rattle.mp_script.specs.declared.access.Stage.{Stage}
 use Rattle.mp_script.specs.Access.{after, completes, is_complete, part_of, parts_of}
 
-completes_more : (s : Stage) (p : Part) (parts : List Part) → completes s (p ∷ parts) ≡ completes (after s p) parts
+completes_more : (s : Stage) (p : AccessPart) (parts : List AccessPart) → completes s (p ∷ parts) ≡ completes (after s p) parts
 unfolding completes
 completes_more s p parts = refl
 

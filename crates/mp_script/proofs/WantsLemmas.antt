@@ -8,7 +8,7 @@ use Rattle.mp_script.specs.declared.keywords.Keyword.{Keyword}
 use Rattle.mp_script.specs.declared.keywords.Keyword.TheVariants as keyword
 use Rattle.mp_script.specs.Access.{is_access}
 use Rattle.mp_script.specs.Keywords.{keyword_of}
-use Rattle.mp_script.specs.Meaning.{alone, by_keyword, by_words, chomped, meant, shown, verb_of, wants_of}
+use Rattle.mp_script.specs.Meaning.{alone, by_keyword, by_words, chomped, meant, show_verb, verb_of, wants_of}
 use Rattle.mp_script.specs.Numbers.{number_of, one, two, three, perhaps, AreSmall}
 use Rattle.mp_script.specs.Words.{words_of, behind_word}
 use Rattle.mp_script.proofs.NumberLemmas.{numbers_small}
@@ -50,9 +50,9 @@ alone_few : (v : Verb) → wants_of v < 1000000000 → (ns : List (Option ℕ)) 
 alone_few v h [] = h
 alone_few v h (n ∷ ns) = tt
 
-shown_few : (access : List ℕ) → WantsFew (shown access)
+show_verb_few : (access : List ℕ) → WantsFew (show_verb access)
 unfolding wants_of
-shown_few access = at (is_access access)
+show_verb_few access = at (is_access access)
   where
     at : (v : Bool) → WantsFew (cond v (Some (verb.Show access)) None)
     at true = omega arith
@@ -74,7 +74,7 @@ verb_few keyword.Clear ns access s = one_few (λ n. verb.Clear n) (λ n h. omega
 verb_few keyword.Run ns access s = perhaps_few (λ n. verb.Run n) (λ n. omega arith) ns
 verb_few keyword.Go ns access s = perhaps_few (λ n. verb.Go n) (λ n. omega arith) ns
 verb_few keyword.Step ns access s = perhaps_few (λ n. verb.Step n) (λ n. omega arith) ns
-verb_few keyword.Show ns access s = shown_few access
+verb_few keyword.Show ns access s = show_verb_few access
 verb_few keyword.Where ns access s = alone_few verb.Chain (omega arith) ns
 verb_few keyword.Kill ns access s = alone_few verb.Kill (omega arith) ns
 verb_few keyword.Quit ns access s = alone_few verb.Quit (omega arith) ns

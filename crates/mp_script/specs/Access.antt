@@ -6,12 +6,12 @@ use Rattle.mp_ast.specs.declared.tokens.Token.{Token}
 use Rattle.mp_ast.specs.declared.tokens.TokenKind.{TokenKind}
 use Rattle.mp_ast.specs.declared.tokens.TokenKind.TheVariants as kind
 use Rattle.mp_lex.specs.Lexed.{lexical_errors, lexical_tokens}
-use Rattle.mp_script.specs.declared.access.Part.{Part}
-use Rattle.mp_script.specs.declared.access.Part.TheVariants as part
+use Rattle.mp_script.specs.declared.access.AccessPart.{AccessPart}
+use Rattle.mp_script.specs.declared.access.AccessPart.TheVariants as part
 use Rattle.mp_script.specs.declared.access.Stage.{Stage}
 use Rattle.mp_script.specs.declared.access.Stage.TheVariants as stage
 
-abbrev pub part_of_symbol : Symbol → Part
+abbrev pub part_of_symbol : Symbol → AccessPart
 part_of_symbol symbol.Plus = part.Sign
 part_of_symbol symbol.Minus = part.Sign
 part_of_symbol symbol.Star = part.Other
@@ -34,20 +34,20 @@ part_of_symbol symbol.Assign = part.Other
 part_of_symbol symbol.DotDot = part.Other
 
 -- a character-string of one element is a char constant (ISO 7185, 6.1.7)
-abbrev pub part_of_text : List ℕ → Part
+abbrev pub part_of_text : List ℕ → AccessPart
 part_of_text [] = part.Other
 part_of_text (b ∷ []) = part.Char
 part_of_text (b ∷ c ∷ bytes) = part.Other
 
 -- what a token is in an access
-abbrev pub part_of : TokenKind → Part
+abbrev pub part_of : TokenKind → AccessPart
 part_of (kind.Id name) = part.Name
 part_of (kind.Number n) = part.Number
 part_of (kind.Text bytes) = part_of_text bytes
 part_of (kind.Word word) = part.Other
 part_of (kind.Symbol s) = part_of_symbol s
 
-abbrev pub parts_of : List Token → List Part
+abbrev pub parts_of : List Token → List AccessPart
 parts_of tokens = map (λ (token : Token). part_of token.kind) tokens
 
 -- An index: a number with an optional sign, a char constant, or a constant's name.
@@ -63,33 +63,33 @@ pub data Selector : Type 0 where
   Field : Selector
   Pointed : Selector
 
-abbrev pub parts_of_index : Index → List Part
+abbrev pub parts_of_index : Index → List AccessPart
 parts_of_index Number = part.Number ∷ []
 parts_of_index Signed = part.Sign ∷ part.Number ∷ []
 parts_of_index Char = part.Char ∷ []
 parts_of_index Name = part.Name ∷ []
 
 -- further indexes, each behind a comma
-unfoldable pub parts_of_more : List Index → List Part
+unfoldable pub parts_of_more : List Index → List AccessPart
 parts_of_more [] = []
 parts_of_more (index ∷ more) = part.Comma ∷ (parts_of_index index ++ parts_of_more more)
 
-abbrev pub parts_of_selector : Selector → List Part
+abbrev pub parts_of_selector : Selector → List AccessPart
 parts_of_selector (Indexed index more) = part.Open ∷ (parts_of_index index ++ (parts_of_more more ++ (part.Close ∷ [])))
 parts_of_selector Field = part.Dot ∷ part.Name ∷ []
 parts_of_selector Pointed = part.Caret ∷ []
 
-unfoldable pub parts_of_selectors : List Selector → List Part
+unfoldable pub parts_of_selectors : List Selector → List AccessPart
 parts_of_selectors [] = []
 parts_of_selectors (selector ∷ more) = parts_of_selector selector ++ parts_of_selectors more
 
 -- The form of an access: a name, and then selectors.
-pub record IsAccess (parts : List Part) : Type 0 where
+pub record IsAccess (parts : List AccessPart) : Type 0 where
   pub selectors : List Selector
   pub all : parts ≡ part.Name ∷ parts_of_selectors selectors
 
 -- what may come behind this part, by what might have come in its place
-abbrev pub after : Stage → Part → Stage
+abbrev pub after : Stage → AccessPart → Stage
 after stage.Start part.Name = stage.Selectors
 after stage.Start p = stage.Wrong
 after stage.Selectors part.Dot = stage.Field
@@ -121,15 +121,15 @@ is_complete stage.Close = false
 is_complete stage.Wrong = false
 
 -- these parts complete an access of which so much has come
-unfoldable pub completes : Stage → List Part → Bool
+unfoldable pub completes : Stage → List AccessPart → Bool
 completes s [] = is_complete s
 completes s (p ∷ parts) = completes (after s p) parts
 
 -- the test of an access's form; `IsAccess` says what it tests
-abbrev pub have_form : List Part → Bool
+abbrev pub have_form : List AccessPart → Bool
 have_form parts = completes stage.Start parts
 
-abbrev pub IsFormTested : List Part → Type 0
+abbrev pub IsFormTested : List AccessPart → Type 0
 IsFormTested parts = IsTrue (have_form parts) ↔ IsAccess parts
 
 -- bytes that are an access: they have no lexical error, and their tokens have the form of an access

@@ -21,8 +21,8 @@ alone v [] = Some v
 alone v (n ∷ numbers) = None
 
 -- the verb of a keyword that an access follows
-abbrev pub shown : List ℕ → Option Verb
-shown access = if is_access access then Some (verb.Show access) else None
+abbrev pub show_verb : List ℕ → Option Verb
+show_verb access = if is_access access then Some (verb.Show access) else None
 
 -- the verb of a keyword by the numbers that the words behind it are, or by the access that stands behind it
 abbrev pub verb_of : Keyword → List (Option ℕ) → List ℕ → Option Verb
@@ -40,7 +40,7 @@ verb_of keyword.Clear numbers access = option_map (λ n. verb.Clear n) (one numb
 verb_of keyword.Run numbers access = option_map (λ n. verb.Run n) (perhaps numbers)
 verb_of keyword.Go numbers access = option_map (λ n. verb.Go n) (perhaps numbers)
 verb_of keyword.Step numbers access = option_map (λ n. verb.Step n) (perhaps numbers)
-verb_of keyword.Show numbers access = shown access
+verb_of keyword.Show numbers access = show_verb access
 verb_of keyword.Where numbers access = alone verb.Chain numbers
 verb_of keyword.Kill numbers access = alone verb.Kill numbers
 verb_of keyword.Quit numbers access = alone verb.Quit numbers

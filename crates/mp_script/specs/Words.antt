@@ -13,8 +13,8 @@ abbrev pub AreSeparators : List ℕ → Type 0
 AreSeparators bytes = IsTrue (list_all is_separator bytes)
 
 -- bytes without a separator, at least one
-abbrev pub IsWord : List ℕ → Type 0
-IsWord bytes = (0 < length bytes) × IsTrue (list_all is_word_byte bytes)
+abbrev pub IsCommandWord : List ℕ → Type 0
+IsCommandWord bytes = (0 < length bytes) × IsTrue (list_all is_word_byte bytes)
 
 -- no word goes on in these bytes
 abbrev pub ends_word : List ℕ → Bool
@@ -27,7 +27,7 @@ pub record BeginsWith (first line : List ℕ) (Rest : List ℕ → Type 0) : Typ
   pub rest : List ℕ
   pub all : line ≡ gap ++ (first ++ rest)
   pub separators : AreSeparators gap
-  pub word : IsWord first
+  pub word : IsCommandWord first
   pub ends : IsTrue (ends_word rest)
   pub more : Rest rest
 

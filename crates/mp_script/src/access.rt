@@ -8,7 +8,7 @@ use std::alloc::Global;
 
 /// What a token is in an access.
 #[derive(Clone, Copy)]
-pub enum Part {
+pub enum AccessPart {
     Name,
     Number,
     /// A character-string of one element.
@@ -45,16 +45,16 @@ pub enum Stage {
     Wrong,
 }
 
-fn part_of_symbol(symbol: Symbol) -> Part
+fn part_of_symbol(symbol: Symbol) -> AccessPart
     ensures { result ≡ part_of_symbol symbol }
 {
     match symbol {
-        Symbol::Plus | Symbol::Minus => Part::Sign,
-        Symbol::LeftBracket => Part::Open,
-        Symbol::RightBracket => Part::Close,
-        Symbol::Dot => Part::Dot,
-        Symbol::Comma => Part::Comma,
-        Symbol::Caret => Part::Caret,
+        Symbol::Plus | Symbol::Minus => AccessPart::Sign,
+        Symbol::LeftBracket => AccessPart::Open,
+        Symbol::RightBracket => AccessPart::Close,
+        Symbol::Dot => AccessPart::Dot,
+        Symbol::Comma => AccessPart::Comma,
+        Symbol::Caret => AccessPart::Caret,
         Symbol::Star
         | Symbol::Equal
         | Symbol::Less
@@ -67,38 +67,38 @@ fn part_of_symbol(symbol: Symbol) -> Part
         | Symbol::LessEqual
         | Symbol::GreaterEqual
         | Symbol::Assign
-        | Symbol::DotDot => Part::Other,
+        | Symbol::DotDot => AccessPart::Other,
     }
 }
 
-fn part_of(kind: &TokenKind) -> Part
+fn part_of(kind: &TokenKind) -> AccessPart
     ensures { result ≡ part_of kind.now }
 {
     match kind {
-        TokenKind::Id(_) => Part::Name,
-        TokenKind::Number(_) => Part::Number,
+        TokenKind::Id(_) => AccessPart::Name,
+        TokenKind::Number(_) => AccessPart::Number,
         TokenKind::Text(bytes) => match bytes.get() {
-            [_] => Part::Char,
-            _ => Part::Other,
+            [_] => AccessPart::Char,
+            _ => AccessPart::Other,
         },
-        TokenKind::Word(_) => Part::Other,
+        TokenKind::Word(_) => AccessPart::Other,
         TokenKind::Symbol(symbol) => part_of_symbol(*symbol),
     }
 }
 
-fn after(stage: Stage, part: Part) -> Stage
+fn after(stage: Stage, part: AccessPart) -> Stage
     ensures { result ≡ after stage part }
 {
     match (stage, part) {
-        (Stage::Start | Stage::Field, Part::Name) => Stage::Selectors,
-        (Stage::Selectors, Part::Dot) => Stage::Field,
-        (Stage::Selectors, Part::Caret) => Stage::Selectors,
-        (Stage::Selectors, Part::Open) => Stage::Index,
-        (Stage::Index, Part::Name | Part::Number | Part::Char) => Stage::Close,
-        (Stage::Index, Part::Sign) => Stage::Number,
-        (Stage::Number, Part::Number) => Stage::Close,
-        (Stage::Close, Part::Comma) => Stage::Index,
-        (Stage::Close, Part::Close) => Stage::Selectors,
+        (Stage::Start | Stage::Field, AccessPart::Name) => Stage::Selectors,
+        (Stage::Selectors, AccessPart::Dot) => Stage::Field,
+        (Stage::Selectors, AccessPart::Caret) => Stage::Selectors,
+        (Stage::Selectors, AccessPart::Open) => Stage::Index,
+        (Stage::Index, AccessPart::Name | AccessPart::Number | AccessPart::Char) => Stage::Close,
+        (Stage::Index, AccessPart::Sign) => Stage::Number,
+        (Stage::Number, AccessPart::Number) => Stage::Close,
+        (Stage::Close, AccessPart::Comma) => Stage::Index,
+        (Stage::Close, AccessPart::Close) => Stage::Selectors,
         _ => Stage::Wrong,
     }
 }

@@ -3,7 +3,7 @@ ghost use Rattle.std.specs.Prelude.{List, ℕ};
 ghost use Rattle.mp_script.specs.Access.{IsFormTested};
 ghost use Rattle.mp_script.specs.Keywords.{IsFoundBySpelling};
 ghost use Rattle.mp_script.specs.Words.{HasItsWords, HasOneBehindWord};
-ghost use Rattle.mp_script.specs.declared.access.Part.{Part};
+ghost use Rattle.mp_script.specs.declared.access.AccessPart.{AccessPart};
 ghost use Rattle.mp_script.specs.declared.keywords.Keyword.{Keyword};
 
 /// A line has one list of words: without separators, not empty, and with separators between them.
@@ -18,7 +18,7 @@ pub fn keywords_are_found()
 
 /// The test of an access's form passes exactly what has that form.
 pub fn access_form_is_tested()
-    ensures { (parts : List Part) → IsFormTested parts }
+    ensures { (parts : List AccessPart) → IsFormTested parts }
 {}
 
 /// What stands behind a line's first word is kept as it stands there, without the separators at its ends, and is the

@@ -1,5 +1,5 @@
 ghost use Rattle.std.specs.Prelude.{◌≡◌, ◌<◌, ◌≤◌, [], IfErr, IfOk, None, Some, length};
-ghost use Rattle.mp_script.specs.Meaning.{alone, by_words, chomped, meant, shown, verb_of, wants_of};
+ghost use Rattle.mp_script.specs.Meaning.{alone, by_words, chomped, meant, show_verb, verb_of, wants_of};
 ghost use Rattle.mp_script.specs.Words.{behind_word};
 
 use crate::access::is_access;
@@ -55,9 +55,9 @@ fn alone(verb: Verb, numbers: &[Option<u32>]) -> Option<Verb>
 }
 
 // The verb of a keyword that an access follows.
-fn shown(alloc: Global, access: &[u8]) -> Result<Option<Verb>, Memory>
+fn show_verb(alloc: Global, access: &[u8]) -> Result<Option<Verb>, Memory>
     requires { length access.now ≤ COMMAND_LIMIT }
-    ensures { IfOk result (λ verb. verb ≡ shown access.now) }
+    ensures { IfOk result (λ verb. verb ≡ show_verb access.now) }
 {
     if is_access(alloc, access)? {
         let access = Bytes::of(alloc, access)?;
@@ -99,7 +99,7 @@ fn verb_of(
         Keyword::Run => Ok(perhaps(numbers).map(|steps| Verb::Run { steps })),
         Keyword::Go => Ok(perhaps(numbers).map(|steps| Verb::Go { steps })),
         Keyword::Step => Ok(perhaps(numbers).map(|steps| Verb::Step { steps })),
-        Keyword::Show => shown(alloc, access),
+        Keyword::Show => show_verb(alloc, access),
         Keyword::Where => Ok(alone(Verb::Chain, numbers)),
         Keyword::Kill => Ok(alone(Verb::Kill, numbers)),
         Keyword::Quit => Ok(alone(Verb::Quit, numbers)),
