@@ -7,12 +7,11 @@
 //! for the lexical errors and on `itoa` for the digits of numbers.
 #![tactic(auto)]
 
-mod laws;
+pub mod laws;
 mod lines;
 mod messages;
 mod shown;
 
-pub use laws::one_text_a_code;
 pub use lines::listing;
 pub use shown::{Shown, position, shown_errors};
 

@@ -9,7 +9,7 @@
 mod cause;
 mod comments;
 mod items;
-mod laws;
+pub mod laws;
 mod lexer;
 mod marks;
 mod meaning;
@@ -18,6 +18,5 @@ mod strings;
 mod symbols;
 mod words;
 
-pub use laws::{one_split, two_bytes_decide, words_are_found};
 pub use lexer::lex;
 pub use mp_ast::{LexError, LexErrors, Lexed, Symbol, Token, TokenKind, Tokens, WordSymbol};

@@ -11,16 +11,11 @@
 
 mod blocks;
 mod errors;
-mod laws;
+pub mod laws;
 mod parser;
 mod parts;
 mod stopped;
 
 pub use errors::ParseError;
-pub use laws::{
-    blocks_do_not_look_around, first_errors_are_found, one_first_error, one_tree,
-    programs_have_no_error, statement_parts_are_read_exactly,
-    statement_parts_stop_behind_their_begin,
-};
 pub use parser::parse;
 pub use stopped::{StoppedPart, read_statement_part};

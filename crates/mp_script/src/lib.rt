@@ -9,15 +9,12 @@
 mod access;
 mod commands;
 mod keywords;
-mod laws;
+pub mod laws;
 mod lines;
 mod numbers;
 mod parsing;
 mod words;
 
 pub use commands::{BadLine, Command, Verb};
-pub use laws::{
-    access_form_is_tested, behind_the_first_word, keywords_are_found, one_list_of_words,
-};
 pub use lines::Lines;
 pub use parsing::command;

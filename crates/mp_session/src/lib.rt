@@ -9,14 +9,13 @@
 #![tactic(auto)]
 
 mod departure;
-mod laws;
+pub mod laws;
 mod listing;
 mod replies;
 mod session;
 mod state;
 mod texts;
 
-pub use laws::{so_far_begins_the_transcript, transcript_line_by_line};
 pub use replies::list_transcript;
 pub use session::{Session, SessionError, Turn};
 pub use state::State;

@@ -10,7 +10,7 @@
 mod bytes;
 mod edits;
 mod errors;
-mod laws;
+pub mod laws;
 mod making;
 mod ranges;
 mod sizes;
@@ -18,5 +18,4 @@ mod texts;
 
 pub use edits::Edit;
 pub use errors::TextError;
-pub use laws::{edits_change_their_place, range_is_tested, sizes_of_edits};
 pub use texts::Texts;
