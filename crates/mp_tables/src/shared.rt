@@ -1,0 +1,62 @@
+ghost use Rattle.std.specs.Prelude.{◌≡◌, IfOk, length};
+
+use mp_base::Memory;
+use sqlite_items::Items;
+use std::alloc::Global;
+use std::marker::Model;
+use std::sync::Arc;
+
+/// A list that copies share: a copy costs no more for a long list than for a short one. To a contract it is the plain
+/// list.
+#[derive(Drop)]
+pub struct Shared<T> {
+    items: Arc<Items<T>>,
+}
+
+impl<T> Model for Shared<T> {
+    ghost use Rattle.std.specs.Prelude.{List};
+    ghost use Rattle.std.specs.Arc.{arc_value};
+    ghost use Rattle.std.specs.Coded.{coded_list};
+
+    ghost Value = { List T };
+
+    ghost coded = { coded_list T.code };
+
+    ghost view = { λ shared. arc_value shared.items };
+}
+
+impl<T> Shared<T> {
+    /// The same list, which is shared.
+    pub fn copy(&self) -> Result<Shared<T>, Memory>
+        ensures { IfOk result (λ shared. shared ≡ self.now) }
+    {
+        Ok(Shared {
+            items: Arc::try_clone(&self.items)?,
+        })
+    }
+
+    /// The list, in order.
+    pub fn as_slice(&self) -> &[T]
+        ensures { result.now ≡ self.now }
+    {
+        self.items.as_slice()
+    }
+
+    /// How many items the list has.
+    pub fn len(&self) -> usize
+        ensures { result ≡ length self.now }
+    {
+        self.items.len()
+    }
+}
+
+impl<T: Drop> Shared<T> {
+    /// This list, to be shared.
+    pub fn new(alloc: Global, items: Items<T>) -> Result<Shared<T>, Memory>
+        ensures { IfOk result (λ shared. shared ≡ items) }
+    {
+        Ok(Shared {
+            items: Arc::new(alloc, items)?,
+        })
+    }
+}
