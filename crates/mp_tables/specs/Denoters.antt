@@ -249,22 +249,23 @@ tag_slot id number within (Some x) r =
 -- a variant part, of which the variants are not read yet
 abbrev pub with_part : Option TypeId → Option Within → Bool → RecordSoFar → RecordSoFar
 with_part host within hidden r =
-    record r { parts = r.parts ++ record { within = within; tag = length r.slots; hidden = hidden; host = host; variants = []; cells = 0 } ∷ [] }
+    record r { parts = r.parts ++ record { within = within; tag = length r.slots; hidden = hidden; host = host; variants = []; slots = 0; cells = 0 } ∷ [] }
 
-abbrev pub put_variants : List VariantConstants → ℕ → Part → Part
-put_variants variants cells p = record p { variants = variants; cells = cells }
+-- the variants of a part, and the slots behind its tag
+abbrev pub put_variants : List VariantConstants → List Slot → Part → Part
+put_variants variants behind p = record p { variants = variants; slots = length behind; cells = sum_of (map (λ x. x.cells) behind) }
 
 abbrev pub changed_at : ℕ → ℕ → (Part → Part) → List Part → List Part
 changed_at k n f [] = []
 changed_at k n f (p ∷ parts) = (if nat_eq k n then f p else p) ∷ changed_at k (n + 1) f parts
 
--- the cells that are new in the second record
-abbrev pub added_cells : RecordSoFar → RecordSoFar → ℕ
-added_cells r s = sum_of (map (λ x. x.cells) (drop (length r.slots) s.slots))
+-- the slots that are new in the second record
+abbrev pub added : RecordSoFar → RecordSoFar → List Slot
+added r s = drop (length r.slots) s.slots
 
 -- the variant part with this number has these variants, whose fields were added to those of r
 abbrev pub close_part : ℕ → List VariantConstants → RecordSoFar → RecordSoFar → RecordSoFar
-close_part k variants r s = record s { parts = changed_at k 0 (put_variants variants (added_cells r s)) s.parts }
+close_part k variants r s = record s { parts = changed_at k 0 (put_variants variants (added r s)) s.parts }
 
 abbrev pub host_of : Option Bounds → Option TypeId
 host_of None = None
@@ -286,7 +287,7 @@ pub record VariantsSoFar : Type 0 where
   pub variants : List VariantConstants
 
 abbrev pub more_variants : VariantsSoFar → Selecting → VariantsSoFar
-more_variants v s = record { known = s.known; variants = v.variants ++ record { values = s.values } ∷ [] }
+more_variants v s = record { known = s.known; variants = v.variants ++ record { constants = s.values } ∷ [] }
 
 abbrev pub empty_record : RecordSoFar
 empty_record = record { slots = []; parts = []; offset = 0; file = false }
