@@ -1,5 +1,5 @@
 -- Statements: where no error is reported, the typed tree is checked.
-use Rattle.std.proofs.Common.{◌≡◌, ℕ, suc, Bool, true, false, cond, not, List, [], ◌∷◌, ◌++◌, Option, Some, None, refl, sym, ap, ◌-◌, ◌∙◌, subst, inl, inr, map, length, take, slice_get, is_some, arith, nat_eq, append_assoc, append-nil}
+use Rattle.std.proofs.Common.{◌≡◌, ℕ, suc, Bool, true, false, cond, not, List, [], ◌∷◌, ◌++◌, Option, Some, None, refl, sym, ap, ◌-◌, ◌∙◌, subst, inl, inr, map, length, take, slice_get, is_some, arith, nat_eq, append_assoc, append-nil, ◌||◌}
 use Rattle.std.specs.Prelude.{unwrap_or}
 use Rattle.std.specs.List.{list_any}
 use Rattle.std.proofs.lemmas.List.{length-append}
@@ -59,7 +59,7 @@ use Rattle.mp_tables.specs.Complete.{Standing, CompleteRoutine, Complete, ShortE
 use Rattle.mp_tables.proofs.CleanLemmas.{Clean, Any, clean_pure, ◌then◌, ◌so◌, any_bind, clean_report, clean_report_if, clean_refuse, clean_refused, clean_lift, clean_forall, clean_both, false_true, true_false, holds, none_some}
 use Rattle.mp_tables.proofs.GoodLemmas.{GoodTyped, GoodValue, ordinal_value, tag_field, shorter, IsType, GoodAccess, GoodExpr, OpenedFit, Fits, DeclaredIn, GoodSeen, GoodUse, GoodUseIf, good_seen, used_clean, typed_if_clean, slice_get_seam, slice_get_front}
 use Rattle.mp_tables.proofs.SortLemmas.{both_true, same_path-eq, same_step-eq, has_host_ordinal, some_ordinal}
-use Rattle.mp_tables.proofs.VariableLemmas.{GoodAccessIf, variable_use_clean, good_if, threat_clean}
+use Rattle.mp_tables.proofs.VariableLemmas.{GoodAccessIf, variable_use_clean, good_if, threat_clean, unthreatened}
 use Rattle.mp_tables.proofs.CallLemmas.{result_standing, GoodGiven, GivenOrNot, given_good, GoodActuals, no_widths_clean, ActualsIf, actuals_of_clean, fits_value, fits_holds}
 use Rattle.mp_tables.proofs.RequiredLemmas.{CalledIf, CleanIf, required_call_clean}
 use Rattle.mp_tables.proofs.ExpressionLemmas.{AccessedIf, variable_found, start_clean, expression_clean, selected_clean, actuals_clean}
@@ -397,9 +397,9 @@ module _ (tables : List Table) (complete : Complete tables) (path : List PathSte
   entire_by r x q v a false e = refused_control_clean x.at a.typed
   entire_by r x q v a true e =
       threat_clean r x.at (Some (record { name = x.name; path = q; control = v.control }))
-      then λ t. clean_report_if (not (ordinal_if a.typed)) 318 x.at
+      then λ t. clean_report_if (not (t || ordinal_if a.typed)) 318 x.at
       then λ u. clean_pure (control_of t x q v.offset a.typed)
-      (λ o p i fit g k. control_good i r x q v a t p (holds (ordinal_if a.typed) o) e fit g.0 k.1.0 k.1.1 k.1.2)
+      (λ o p i fit g k. control_good i r x q v a t p (unthreatened t (ordinal_if a.typed) p o) e fit g.0 k.1.0 k.1.1 k.1.2)
 
   variable_control_clean : (r : Region) (x : Identifier) (u : Use) (a : Accessed) → Clean (answers_of tables) (variable_control r x u a) (λ c. (i : Inner) → Fits (at_place i) r → GoodUse (at_place i) x.name u → GoodAccessIf (at_place i) u (Some a) → IsControl i c)
   variable_control_clean r x (Declared (decl.Var q v)) a = entire_by r x q v a (same_path q r.path) refl

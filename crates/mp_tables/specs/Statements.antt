@@ -1,5 +1,5 @@
 -- Statements (ISO 7185, 6.8): their trees with resolved names, and their errors.
-use Rattle.std.specs.Prelude.{ℕ, Bool, true, false, not, List, [], ◌∷◌, ◌++◌, Option, Some, None, map, length, nat_eq, is_some, unwrap_or, if◌then◌else◌}
+use Rattle.std.specs.Prelude.{ℕ, Bool, true, false, not, List, [], ◌∷◌, ◌++◌, Option, Some, None, map, length, nat_eq, is_some, unwrap_or, if◌then◌else◌, ◌||◌}
 use Rattle.std.specs.List.{list_any}
 use Rattle.mp_base.specs.declared.path.PathStep.{PathStep}
 use Rattle.mp_ast.specs.declared.leaves.Identifier.{Identifier}
@@ -314,10 +314,11 @@ control_of threatened x path offset t =
       typed = if threatened then None else typed_bounds t (bounds_if t);
     }
 
+-- 318: the type is not ordinal; where 347 stands it is not looked at. At the name.
 abbrev pub own_control : Region → Identifier → Accessed → ℕ → Entire → Rule Control
 own_control r x a offset e = do
   threatened ← threat r x.at (Some e)
-  report_if (not (ordinal_if a.typed)) 318 x.at
+  report_if (not (threatened || ordinal_if a.typed)) 318 x.at
   pure (control_of threatened x e.path offset a.typed)
 
 -- an entire variable, which is a control variable where it is this block's
