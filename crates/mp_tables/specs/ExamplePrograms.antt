@@ -91,10 +91,10 @@ nested_blocks =
           ∷ []);
       statements =
           tree.Compound 15 (s.Sequence
-                (s.Assign (record { name = (i 16 (codes "x")); selectors = e.NoSelectors }) 17 (e.Number (n 18 0)))
-                (s.Sequence
-                (s.Call (i 20 (codes "a")) e.NoActuals)
-                (s.Sequence (s.Call (i 22 (codes "writeln")) (e.Actual (e.Access (i 24 (codes "x")) e.NoSelectors) e.NoActuals)) s.NoStatements))) 26;
+          (s.Assign (record { name = (i 16 (codes "x")); selectors = e.NoSelectors }) 17 (e.Number (n 18 0)))
+          (s.Sequence
+          (s.Call (i 20 (codes "a")) e.NoActuals)
+          (s.Sequence (s.Call (i 22 (codes "writeln")) (e.Actual (e.Access (i 24 (codes "x")) e.NoSelectors) e.NoActuals)) s.NoStatements))) 26;
       tokens = 28;
     })
     (tree.Beside
@@ -158,10 +158,10 @@ hidden_variable =
           ∷ []);
       statements =
           tree.Compound 15 (s.Sequence
-                (s.Assign (record { name = (i 16 (codes "x")); selectors = e.NoSelectors }) 17 (e.Number (n 18 0)))
-                (s.Sequence
-                (s.Call (i 20 (codes "a")) e.NoActuals)
-                (s.Sequence (s.Call (i 22 (codes "writeln")) (e.Actual (e.Access (i 24 (codes "x")) e.NoSelectors) e.NoActuals)) s.NoStatements))) 26;
+          (s.Assign (record { name = (i 16 (codes "x")); selectors = e.NoSelectors }) 17 (e.Number (n 18 0)))
+          (s.Sequence
+          (s.Call (i 20 (codes "a")) e.NoActuals)
+          (s.Sequence (s.Call (i 22 (codes "writeln")) (e.Actual (e.Access (i 24 (codes "x")) e.NoSelectors) e.NoActuals)) s.NoStatements))) 26;
       tokens = 28;
     })
     (tree.Beside
@@ -231,16 +231,16 @@ field_of_an_outer_variable =
           ∷ []);
       statements =
           tree.Compound 24 (s.Sequence
-                (s.Call (i 25 (codes "a")) e.NoActuals)
-                (s.Sequence
-                (s.Call
-                (i 27 (codes "writeln"))
-                (e.ActualWithWidth
-                (e.Access (i 29 (codes "v")) (e.Field 30 (i 31 (codes "b")) e.NoSelectors))
-                32
-                (e.Number (n 33 2))
-                e.NoActuals))
-                s.NoStatements)) 35;
+          (s.Call (i 25 (codes "a")) e.NoActuals)
+          (s.Sequence
+          (s.Call
+          (i 27 (codes "writeln"))
+          (e.ActualWithWidth
+          (e.Access (i 29 (codes "v")) (e.Field 30 (i 31 (codes "b")) e.NoSelectors))
+          32
+          (e.Number (n 33 2))
+          e.NoActuals))
+          s.NoStatements)) 35;
       tokens = 37;
     })
     (tree.Beside
@@ -272,11 +272,11 @@ field_of_an_outer_variable =
       declarations = [];
       statements =
           tree.Compound 0 (s.Sequence
-                (s.Assign
-                (record { name = (i 1 (codes "v")); selectors = (e.Field 2 (i 3 (codes "b")) e.NoSelectors) })
-                4
-                (e.Number (n 5 7)))
-                s.NoStatements) 6;
+          (s.Assign
+          (record { name = (i 1 (codes "v")); selectors = (e.Field 2 (i 3 (codes "b")) e.NoSelectors) })
+          4
+          (e.Number (n 5 7)))
+          s.NoStatements) 6;
       tokens = 7;
     })
     tree.NoTrees)
@@ -326,19 +326,19 @@ errors_of_statements =
       declarations = [];
       statements =
           tree.Compound 11 (s.Sequence
-                (s.For 12
-                (record {
-                  variable = (i 13 (codes "i"));
-                  assign = 14;
-                  first = (e.Number (n 15 1));
-                  direction = direction.To;
-                  last = (e.Number (n 17 3));
-                })
-                (s.Compound 19
-                (s.Sequence
-                (s.Assign (record { name = (i 20 (codes "i")); selectors = e.NoSelectors }) 21 (e.Number (n 22 2)))
-                (s.Sequence (s.Labelled (n 24 1) (s.Empty 26)) s.NoStatements))))
-                (s.Sequence (s.Goto 28 (n 29 1)) (s.Sequence (s.If 31 (e.Access (i 32 (codes "i")) e.NoSelectors) (s.Empty 34)) s.NoStatements))) 34;
+          (s.For 12
+          (record {
+            variable = (i 13 (codes "i"));
+            assign = 14;
+            first = (e.Number (n 15 1));
+            direction = direction.To;
+            last = (e.Number (n 17 3));
+          })
+          (s.Compound 19
+          (s.Sequence
+          (s.Assign (record { name = (i 20 (codes "i")); selectors = e.NoSelectors }) 21 (e.Number (n 22 2)))
+          (s.Sequence (s.Labelled (n 24 1) (s.Empty 26)) s.NoStatements))))
+          (s.Sequence (s.Goto 28 (n 29 1)) (s.Sequence (s.If 31 (e.Access (i 32 (codes "i")) e.NoSelectors) (s.Empty 34)) s.NoStatements))) 34;
       tokens = 36;
     })
     tree.NoTrees)
@@ -392,10 +392,10 @@ used_names =
           ∷ []);
       statements =
           tree.Compound 71 (s.Sequence
-                (s.Assign (record { name = (i 72 (codes "q")); selectors = e.NoSelectors }) 73 (e.Number (n 74 1)))
-                (s.Sequence
-                (s.Assign (record { name = (i 76 (codes "x")); selectors = e.NoSelectors }) 77 (e.Access (i 78 (codes "c")) e.NoSelectors))
-                s.NoStatements)) 79;
+          (s.Assign (record { name = (i 72 (codes "q")); selectors = e.NoSelectors }) 73 (e.Number (n 74 1)))
+          (s.Sequence
+          (s.Assign (record { name = (i 76 (codes "x")); selectors = e.NoSelectors }) 77 (e.Access (i 78 (codes "c")) e.NoSelectors))
+          s.NoStatements)) 79;
       tokens = 81;
     })
     (tree.Beside
@@ -409,8 +409,8 @@ used_names =
       declarations = [];
       statements =
           tree.Compound 0 (s.Sequence
-                (s.Assign (record { name = (i 1 (codes "y")); selectors = e.NoSelectors }) 2 (e.Number (n 3 1)))
-                (s.Sequence (s.Call (i 5 (codes "z")) e.NoActuals) s.NoStatements)) 6;
+          (s.Assign (record { name = (i 1 (codes "y")); selectors = e.NoSelectors }) 2 (e.Number (n 3 1)))
+          (s.Sequence (s.Call (i 5 (codes "z")) e.NoActuals) s.NoStatements)) 6;
       tokens = 7;
     })
     tree.NoTrees)
@@ -656,81 +656,81 @@ record_types =
       declarations = [];
       statements =
           tree.Compound 136 (s.Sequence
-                (s.Assign
-                (record { name = (i 137 (codes "v")); selectors = (e.Field 138 (i 139 (codes "a")) e.NoSelectors) })
-                140
-                (e.Number (n 141 1)))
-                (s.Sequence
-                (s.Assign
-                (record { name = (i 143 (codes "v")); selectors = (e.Field 144 (i 145 (codes "x")) e.NoSelectors) })
-                146
-                (e.Number (n 147 2)))
-                (s.Sequence
-                (s.Assign
-                (record { name = (i 149 (codes "v")); selectors = (e.Field 150 (i 151 (codes "t")) e.NoSelectors) })
-                152
-                (e.Access (i 153 (codes "red")) e.NoSelectors))
-                (s.Sequence
-                (s.Assign
-                (record {
-                  name = (i 155 (codes "v"));
-                  selectors = (e.Field 156 (i 157 (codes "y")) (e.Field 158 (i 159 (codes "z")) e.NoSelectors));
-                })
-                160
-                (e.Text (record { at = 161; characters = (97 ∷ []) })))
-                (s.Sequence
-                (s.Assign
-                (record {
-                  name = (i 163 (codes "v"));
-                  selectors = (e.Field 164 (i 165 (codes "y")) (e.Field 166 (i 167 (codes "w")) e.NoSelectors));
-                })
-                168
-                (e.Access (i 169 (codes "red")) e.NoSelectors))
-                (s.Sequence
-                (s.Assign
-                (record { name = (i 171 (codes "v")); selectors = (e.Field 172 (i 173 (codes "nofield")) e.NoSelectors) })
-                174
-                (e.Number (n 175 1)))
-                (s.Sequence
-                (s.Assign
-                (record {
-                  name = (i 177 (codes "v"));
-                  selectors = (e.Field 178 (i 179 (codes "a")) (e.Field 180 (i 181 (codes "b")) e.NoSelectors));
-                })
-                182
-                (e.Number (n 183 1)))
-                (s.Sequence
-                (s.Assign (record { name = (i 185 (codes "v")); selectors = (e.Follow 186 e.NoSelectors) }) 187 (e.Number (n 188 1)))
-                (s.Sequence
-                (s.Assign
-                (record { name = (i 190 (codes "v")); selectors = (e.Index 191 (e.Number (n 192 1)) e.NoSelectors) })
-                194
-                (e.Number (n 195 2)))
-                (s.Sequence
-                (s.With 197
-                ((record { name = (i 198 (codes "v")); selectors = e.NoSelectors })
-                ∷ (record { name = (i 200 (codes "y")); selectors = e.NoSelectors })
-                ∷ [])
-                (s.Compound 202
-                (s.Sequence
-                (s.Assign
-                (record { name = (i 203 (codes "z")); selectors = e.NoSelectors })
-                204
-                (e.Text (record { at = 205; characters = (98 ∷ []) })))
-                (s.Sequence
-                (s.Assign (record { name = (i 207 (codes "a")); selectors = e.NoSelectors }) 208 (e.Number (n 209 3)))
-                (s.Sequence
-                (s.Assign
-                (record { name = (i 211 (codes "w")); selectors = e.NoSelectors })
-                212
-                (e.Access (i 213 (codes "blue")) e.NoSelectors))
-                (s.Sequence
-                (s.Assign
-                (record { name = (i 215 (codes "red")); selectors = e.NoSelectors })
-                216
-                (e.Number (n 217 1)))
-                s.NoStatements))))))
-                s.NoStatements)))))))))) 219;
+          (s.Assign
+          (record { name = (i 137 (codes "v")); selectors = (e.Field 138 (i 139 (codes "a")) e.NoSelectors) })
+          140
+          (e.Number (n 141 1)))
+          (s.Sequence
+          (s.Assign
+          (record { name = (i 143 (codes "v")); selectors = (e.Field 144 (i 145 (codes "x")) e.NoSelectors) })
+          146
+          (e.Number (n 147 2)))
+          (s.Sequence
+          (s.Assign
+          (record { name = (i 149 (codes "v")); selectors = (e.Field 150 (i 151 (codes "t")) e.NoSelectors) })
+          152
+          (e.Access (i 153 (codes "red")) e.NoSelectors))
+          (s.Sequence
+          (s.Assign
+          (record {
+            name = (i 155 (codes "v"));
+            selectors = (e.Field 156 (i 157 (codes "y")) (e.Field 158 (i 159 (codes "z")) e.NoSelectors));
+          })
+          160
+          (e.Text (record { at = 161; characters = (97 ∷ []) })))
+          (s.Sequence
+          (s.Assign
+          (record {
+            name = (i 163 (codes "v"));
+            selectors = (e.Field 164 (i 165 (codes "y")) (e.Field 166 (i 167 (codes "w")) e.NoSelectors));
+          })
+          168
+          (e.Access (i 169 (codes "red")) e.NoSelectors))
+          (s.Sequence
+          (s.Assign
+          (record { name = (i 171 (codes "v")); selectors = (e.Field 172 (i 173 (codes "nofield")) e.NoSelectors) })
+          174
+          (e.Number (n 175 1)))
+          (s.Sequence
+          (s.Assign
+          (record {
+            name = (i 177 (codes "v"));
+            selectors = (e.Field 178 (i 179 (codes "a")) (e.Field 180 (i 181 (codes "b")) e.NoSelectors));
+          })
+          182
+          (e.Number (n 183 1)))
+          (s.Sequence
+          (s.Assign (record { name = (i 185 (codes "v")); selectors = (e.Follow 186 e.NoSelectors) }) 187 (e.Number (n 188 1)))
+          (s.Sequence
+          (s.Assign
+          (record { name = (i 190 (codes "v")); selectors = (e.Index 191 (e.Number (n 192 1)) e.NoSelectors) })
+          194
+          (e.Number (n 195 2)))
+          (s.Sequence
+          (s.With 197
+          ((record { name = (i 198 (codes "v")); selectors = e.NoSelectors })
+          ∷ (record { name = (i 200 (codes "y")); selectors = e.NoSelectors })
+          ∷ [])
+          (s.Compound 202
+          (s.Sequence
+          (s.Assign
+          (record { name = (i 203 (codes "z")); selectors = e.NoSelectors })
+          204
+          (e.Text (record { at = 205; characters = (98 ∷ []) })))
+          (s.Sequence
+          (s.Assign (record { name = (i 207 (codes "a")); selectors = e.NoSelectors }) 208 (e.Number (n 209 3)))
+          (s.Sequence
+          (s.Assign
+          (record { name = (i 211 (codes "w")); selectors = e.NoSelectors })
+          212
+          (e.Access (i 213 (codes "blue")) e.NoSelectors))
+          (s.Sequence
+          (s.Assign
+          (record { name = (i 215 (codes "red")); selectors = e.NoSelectors })
+          216
+          (e.Number (n 217 1)))
+          s.NoStatements))))))
+          s.NoStatements)))))))))) 219;
       tokens = 221;
     })
     tree.NoTrees)
@@ -829,16 +829,16 @@ procedures_and_functions =
           ∷ []);
       statements =
           tree.Compound 71 (s.Sequence
-                (s.Call (i 72 (codes "b")) e.NoActuals)
-                (s.Sequence
-                (s.Call (i 74 (codes "b")) (e.Actual (e.Number (n 76 1)) e.NoActuals))
-                (s.Sequence
-                (s.Assign (record { name = (i 79 (codes "a")); selectors = e.NoSelectors }) 80 (e.Number (n 81 1)))
-                (s.Sequence
-                (s.Assign (record { name = (i 83 (codes "k")); selectors = e.NoSelectors }) 84 (e.Number (n 85 2)))
-                (s.Sequence
-                (s.Call (i 87 (codes "f")) (e.Actual (e.Number (n 89 1)) e.NoActuals))
-                (s.Sequence (s.Call (i 92 (codes "a")) (e.Actual (e.Number (n 94 2)) e.NoActuals)) s.NoStatements)))))) 96;
+          (s.Call (i 72 (codes "b")) e.NoActuals)
+          (s.Sequence
+          (s.Call (i 74 (codes "b")) (e.Actual (e.Number (n 76 1)) e.NoActuals))
+          (s.Sequence
+          (s.Assign (record { name = (i 79 (codes "a")); selectors = e.NoSelectors }) 80 (e.Number (n 81 1)))
+          (s.Sequence
+          (s.Assign (record { name = (i 83 (codes "k")); selectors = e.NoSelectors }) 84 (e.Number (n 85 2)))
+          (s.Sequence
+          (s.Call (i 87 (codes "f")) (e.Actual (e.Number (n 89 1)) e.NoActuals))
+          (s.Sequence (s.Call (i 92 (codes "a")) (e.Actual (e.Number (n 94 2)) e.NoActuals)) s.NoStatements)))))) 96;
       tokens = 98;
     })
     (tree.Beside
@@ -936,8 +936,8 @@ procedures_and_functions =
       declarations = [];
       statements =
           tree.Compound 0 (s.Sequence
-                (s.Assign (record { name = (i 1 (codes "k")); selectors = e.NoSelectors }) 2 (e.Number (n 3 1)))
-                s.NoStatements) 4;
+          (s.Assign (record { name = (i 1 (codes "k")); selectors = e.NoSelectors }) 2 (e.Number (n 3 1)))
+          s.NoStatements) 4;
       tokens = 5;
     })
     tree.NoTrees)
@@ -953,8 +953,8 @@ procedures_and_functions =
       declarations = [];
       statements =
           tree.Compound 0 (s.Sequence
-                (s.Assign (record { name = (i 1 (codes "fwd")); selectors = e.NoSelectors }) 2 (e.Number (n 3 2)))
-                s.NoStatements) 4;
+          (s.Assign (record { name = (i 1 (codes "fwd")); selectors = e.NoSelectors }) 2 (e.Number (n 3 2)))
+          s.NoStatements) 4;
       tokens = 5;
     })
     tree.NoTrees)
@@ -982,16 +982,16 @@ labels =
           ∷ []);
       statements =
           tree.Compound 18 (s.Sequence
-                (s.Labelled (n 19 1) (s.Compound 21 (s.Sequence (s.Labelled (n 22 2) (s.Empty 24)) s.NoStatements)))
-                (s.Sequence
-                (s.Goto 26 (n 27 2))
-                (s.Sequence
-                (s.Labelled (n 29 2) (s.Empty 31))
-                (s.Sequence
-                (s.Labelled (n 32 10000) (s.Goto 34 (n 35 10000)))
-                (s.Sequence
-                (s.If 37 (e.Access (i 38 (codes "true")) e.NoSelectors) (s.Labelled (n 40 3) (s.Goto 42 (n 43 3))))
-                (s.Sequence (s.Goto 45 (n 46 3)) s.NoStatements)))))) 47;
+          (s.Labelled (n 19 1) (s.Compound 21 (s.Sequence (s.Labelled (n 22 2) (s.Empty 24)) s.NoStatements)))
+          (s.Sequence
+          (s.Goto 26 (n 27 2))
+          (s.Sequence
+          (s.Labelled (n 29 2) (s.Empty 31))
+          (s.Sequence
+          (s.Labelled (n 32 10000) (s.Goto 34 (n 35 10000)))
+          (s.Sequence
+          (s.If 37 (e.Access (i 38 (codes "true")) e.NoSelectors) (s.Labelled (n 40 3) (s.Goto 42 (n 43 3))))
+          (s.Sequence (s.Goto 45 (n 46 3)) s.NoStatements)))))) 47;
       tokens = 49;
     })
     (tree.Beside
@@ -1005,12 +1005,12 @@ labels =
       declarations = [];
       statements =
           tree.Compound 3 (s.Sequence
-                (s.Goto 4 (n 5 1))
-                (s.Sequence
-                (s.Goto 7 (n 8 2))
-                (s.Sequence
-                (s.Goto 10 (n 11 5))
-                (s.Sequence (s.Labelled (n 13 4) (s.Empty 15)) (s.Sequence (s.Labelled (n 16 6) (s.Empty 18)) s.NoStatements))))) 18;
+          (s.Goto 4 (n 5 1))
+          (s.Sequence
+          (s.Goto 7 (n 8 2))
+          (s.Sequence
+          (s.Goto 10 (n 11 5))
+          (s.Sequence (s.Labelled (n 13 4) (s.Empty 15)) (s.Sequence (s.Labelled (n 16 6) (s.Empty 18)) s.NoStatements))))) 18;
       tokens = 19;
     })
     tree.NoTrees)
@@ -1038,10 +1038,10 @@ gotos =
           ∷ []);
       statements =
           tree.Compound 16 (s.Sequence
-                (s.Labelled
-                (n 17 1)
-                (s.Compound 19 (s.Sequence (s.Goto 20 (n 21 2)) (s.Sequence (s.Labelled (n 23 2) (s.Goto 25 (n 26 1))) s.NoStatements))))
-                (s.Sequence (s.Labelled (n 29 7) (s.Goto 31 (n 32 1))) (s.Sequence (s.Goto 34 (n 35 2)) s.NoStatements))) 36;
+          (s.Labelled
+          (n 17 1)
+          (s.Compound 19 (s.Sequence (s.Goto 20 (n 21 2)) (s.Sequence (s.Labelled (n 23 2) (s.Goto 25 (n 26 1))) s.NoStatements))))
+          (s.Sequence (s.Labelled (n 29 7) (s.Goto 31 (n 32 1))) (s.Sequence (s.Goto 34 (n 35 2)) s.NoStatements))) 36;
       tokens = 38;
     })
     (tree.Beside
@@ -1132,275 +1132,275 @@ expressions =
       declarations = [];
       statements =
           tree.Compound 90 (s.Sequence
-                (s.Assign
-                (record { name = (i 91 (codes "i")); selectors = e.NoSelectors })
-                92
-                (e.Sum None (e.Number (n 93 1)) (e.Operation 94 op.Add (e.Access (i 95 (codes "true")) e.NoSelectors) e.NoOperations)))
-                (s.Sequence
-                (s.Assign
-                (record { name = (i 97 (codes "i")); selectors = e.NoSelectors })
-                98
-                (e.Sum (Some (record { at = 99; kind = sign.Minus })) (e.Access (i 100 (codes "c")) e.NoSelectors) e.NoOperations))
-                (s.Sequence
-                (s.Assign
-                (record { name = (i 102 (codes "i")); selectors = e.NoSelectors })
-                103
-                (e.Not 104 (e.Access (i 105 (codes "i")) e.NoSelectors)))
-                (s.Sequence
-                (s.Assign
-                (record { name = (i 107 (codes "bo")); selectors = e.NoSelectors })
-                108
-                (e.Relation (e.Access (i 109 (codes "i")) e.NoSelectors) 110 op.Equal (e.Access (i 111 (codes "c")) e.NoSelectors)))
-                (s.Sequence
-                (s.Assign
-                (record { name = (i 113 (codes "bo")); selectors = e.NoSelectors })
-                114
-                (e.Relation
-                (e.Access (i 115 (codes "str")) e.NoSelectors)
-                116
-                op.Equal
-                (e.Text (record { at = 117; characters = (97 ∷ 98 ∷ 99 ∷ []) }))))
-                (s.Sequence
-                (s.Assign
-                (record { name = (i 119 (codes "bo")); selectors = e.NoSelectors })
-                120
-                (e.Relation
-                (e.Access (i 121 (codes "str")) e.NoSelectors)
-                122
-                op.Less
-                (e.Text (record { at = 123; characters = (97 ∷ 98 ∷ 99 ∷ 100 ∷ []) }))))
-                (s.Sequence
-                (s.Assign
-                (record { name = (i 125 (codes "bo")); selectors = e.NoSelectors })
-                126
-                (e.Relation (e.Access (i 127 (codes "pn")) e.NoSelectors) 128 op.Equal (e.Nil 129)))
-                (s.Sequence
-                (s.Assign
-                (record { name = (i 131 (codes "bo")); selectors = e.NoSelectors })
-                132
-                (e.Relation (e.Access (i 133 (codes "pn")) e.NoSelectors) 134 op.Less (e.Nil 135)))
-                (s.Sequence
-                (s.Assign
-                (record { name = (i 137 (codes "bo")); selectors = e.NoSelectors })
-                138
-                (e.Relation (e.Access (i 139 (codes "i")) e.NoSelectors) 140 op.In (e.Access (i 141 (codes "se")) e.NoSelectors)))
-                (s.Sequence
-                (s.Assign
-                (record { name = (i 143 (codes "bo")); selectors = e.NoSelectors })
-                144
-                (e.Relation (e.Access (i 145 (codes "c")) e.NoSelectors) 146 op.In (e.Access (i 147 (codes "se")) e.NoSelectors)))
-                (s.Sequence
-                (s.Assign
-                (record { name = (i 149 (codes "bo")); selectors = e.NoSelectors })
-                150
-                (e.Relation
-                (e.Access (i 151 (codes "se")) e.NoSelectors)
-                152
-                op.LessOrEqual
-                (e.Set 153 (e.Member (e.Number (n 154 1)) (e.Member (e.Number (n 156 2)) e.NoMembers)))))
-                (s.Sequence
-                (s.Assign
-                (record { name = (i 159 (codes "bo")); selectors = e.NoSelectors })
-                160
-                (e.Relation
-                (e.Access (i 161 (codes "se")) e.NoSelectors)
-                162
-                op.Less
-                (e.Set 163 (e.Member (e.Number (n 164 1)) e.NoMembers))))
-                (s.Sequence
-                (s.Assign
-                (record { name = (i 167 (codes "se")); selectors = e.NoSelectors })
-                168
-                (e.Set 169
-                (e.Member
-                (e.Number (n 170 1))
-                (e.Member
-                (e.Text (record { at = 172; characters = (97 ∷ []) }))
-                (e.MemberRange
-                (e.Number (n 174 2))
-                (e.Number (n 176 3))
-                (e.Member (e.Access (i 178 (codes "true")) e.NoSelectors) e.NoMembers))))))
-                (s.Sequence
-                (s.Assign
-                (record { name = (i 181 (codes "se")); selectors = e.NoSelectors })
-                182
-                (e.Set 183 (e.Member (e.Access (i 184 (codes "str")) e.NoSelectors) e.NoMembers)))
-                (s.Sequence
-                (s.Assign
-                (record { name = (i 187 (codes "se")); selectors = e.NoSelectors })
-                188
-                (e.Sum None
-                (e.Access (i 189 (codes "se")) e.NoSelectors)
-                (e.Operation 190 op.Add
-                (e.Set 191 (e.Member (e.Access (i 192 (codes "i")) e.NoSelectors) e.NoMembers))
-                e.NoOperations)))
-                (s.Sequence
-                (s.Assign
-                (record { name = (i 195 (codes "se")); selectors = e.NoSelectors })
-                196
-                (e.Product
-                (e.Access (i 197 (codes "se")) e.NoSelectors)
-                (e.Operation 198 op.Multiply
-                (e.Set 199 (e.Member (e.Access (i 200 (codes "en")) e.NoSelectors) e.NoMembers))
-                e.NoOperations)))
-                (s.Sequence
-                (s.Assign
-                (record { name = (i 203 (codes "i")); selectors = e.NoSelectors })
-                204
-                (e.Sum None
-                (e.Access
-                (i 205 (codes "arr"))
-                (e.Index 206 (e.Access (i 207 (codes "c")) e.NoSelectors) e.NoSelectors))
-                (e.Operation 209 op.Add
-                (e.Access
-                (i 210 (codes "arr"))
-                (e.Index 211 (e.Access (i 212 (codes "i")) e.NoSelectors) e.NoSelectors))
-                (e.Operation 214 op.Add
-                (e.Access
-                (i 215 (codes "arr"))
-                (e.Index 216 (e.Access (i 217 (codes "undecl")) e.NoSelectors) e.NoSelectors))
-                e.NoOperations))))
-                (s.Sequence
-                (s.Assign
-                (record { name = (i 220 (codes "i")); selectors = e.NoSelectors })
-                221
-                (e.Sum None
-                (e.Access (i 222 (codes "undecl")) e.NoSelectors)
-                (e.Operation 223 op.Add (e.Access (i 224 (codes "true")) e.NoSelectors) e.NoOperations)))
-                (s.Sequence
-                (s.Assign
-                (record { name = (i 226 (codes "bo")); selectors = e.NoSelectors })
-                227
-                (e.Relation
-                (e.Inside 228
-                (e.Relation
-                (e.Access (i 229 (codes "undecl")) e.NoSelectors)
-                230
-                op.Equal
-                (e.Number (n 231 1))))
-                233
-                op.Equal
-                (e.Number (n 234 2))))
-                (s.Sequence
-                (s.Assign
-                (record { name = (i 236 (codes "i")); selectors = e.NoSelectors })
-                237
-                (e.Product
-                (e.Access (i 238 (codes "i")) e.NoSelectors)
-                (e.Operation 239 op.Div
-                (e.Number (n 240 2))
-                (e.Operation 241 op.Mod (e.Access (i 242 (codes "true")) e.NoSelectors) e.NoOperations))))
-                (s.Sequence
-                (s.Assign
-                (record { name = (i 244 (codes "bo")); selectors = e.NoSelectors })
-                245
-                (e.Sum None
-                (e.Product
-                (e.Access (i 246 (codes "bo")) e.NoSelectors)
-                (e.Operation 247 op.And (e.Access (i 248 (codes "i")) e.NoSelectors) e.NoOperations))
-                (e.Operation 249 op.Or (e.Access (i 250 (codes "bo")) e.NoSelectors) e.NoOperations)))
-                (s.Sequence
-                (s.Assign
-                (record { name = (i 252 (codes "c")); selectors = e.NoSelectors })
-                253
-                (e.Access (i 254 (codes "str")) (e.Index 255 (e.Number (n 256 1)) e.NoSelectors)))
-                (s.Sequence
-                (s.Assign
-                (record { name = (i 259 (codes "str")); selectors = e.NoSelectors })
-                260
-                (e.Text (record { at = 261; characters = (97 ∷ 98 ∷ 99 ∷ []) })))
-                (s.Sequence
-                (s.Assign
-                (record { name = (i 263 (codes "str")); selectors = e.NoSelectors })
-                264
-                (e.Text (record { at = 265; characters = (97 ∷ 98 ∷ []) })))
-                (s.Sequence
-                (s.Assign
-                (record { name = (i 267 (codes "arr")); selectors = e.NoSelectors })
-                268
-                (e.Access (i 269 (codes "arr")) e.NoSelectors))
-                (s.Sequence
-                (s.Assign
-                (record { name = (i 271 (codes "t")); selectors = e.NoSelectors })
-                272
-                (e.Access (i 273 (codes "t")) e.NoSelectors))
-                (s.Sequence
-                (s.Assign
-                (record { name = (i 275 (codes "pn")); selectors = e.NoSelectors })
-                276
-                (e.Nil 277))
-                (s.Sequence
-                (s.Assign
-                (record { name = (i 279 (codes "en")); selectors = e.NoSelectors })
-                280
-                (e.Access (i 281 (codes "r")) e.NoSelectors))
-                (s.Sequence
-                (s.Assign
-                (record { name = (i 283 (codes "en")); selectors = e.NoSelectors })
-                284
-                (e.Access (i 285 (codes "i")) e.NoSelectors))
-                (s.Sequence
-                (s.Assign
-                (record { name = (i 287 (codes "i")); selectors = e.NoSelectors })
-                288
-                (e.Sum None
-                (e.Call
-                (i 289 (codes "ord"))
-                (e.Actual (e.Access (i 291 (codes "en")) e.NoSelectors) e.NoActuals))
-                (e.Operation 293
-                op.Add
-                (e.Call
-                (i 294 (codes "abs"))
-                (e.Actual (e.Access (i 296 (codes "c")) e.NoSelectors) e.NoActuals))
-                (e.Operation 298
-                op.Add
-                (e.Call
-                (i 299 (codes "sqr"))
-                (e.Actual
-                (e.Number (n 301 1))
-                (e.Actual (e.Number (n 303 2)) e.NoActuals)))
-                (e.Operation 305
-                op.Add
-                (e.Call
-                (i 306 (codes "succ"))
-                (e.Actual
-                (e.Access (i 308 (codes "i")) e.NoSelectors)
-                e.NoActuals))
-                e.NoOperations)))))
-                (s.Sequence
-                (s.Assign
-                (record { name = (i 311 (codes "c")); selectors = e.NoSelectors })
-                312
-                (e.Call
-                (i 313 (codes "chr"))
-                (e.Actual (e.Access (i 315 (codes "i")) e.NoSelectors) e.NoActuals)))
-                (s.Sequence
-                (s.Assign
-                (record { name = (i 318 (codes "bo")); selectors = e.NoSelectors })
-                319
-                (e.Call
-                (i 320 (codes "odd"))
-                (e.Actual (e.Access (i 322 (codes "i")) e.NoSelectors) e.NoActuals)))
-                (s.Sequence
-                (s.Assign
-                (record { name = (i 325 (codes "en")); selectors = e.NoSelectors })
-                326
-                (e.Call
-                (i 327 (codes "pred"))
-                (e.Actual
-                (e.Access (i 329 (codes "en")) e.NoSelectors)
-                (e.Actual
-                (e.Access (i 331 (codes "en")) e.NoSelectors)
-                e.NoActuals))))
-                (s.Sequence
-                (s.Assign
-                (record { name = (i 334 (codes "i")); selectors = e.NoSelectors })
-                335
-                (e.Sum
-                (Some (record { at = 336; kind = sign.Minus }))
-                (e.Access (i 337 (codes "i")) e.NoSelectors)
-                (e.Operation 338 op.Add (e.Number (n 339 3)) e.NoOperations)))
-                s.NoStatements)))))))))))))))))))))))))))))))))) 340;
+          (s.Assign
+          (record { name = (i 91 (codes "i")); selectors = e.NoSelectors })
+          92
+          (e.Sum None (e.Number (n 93 1)) (e.Operation 94 op.Add (e.Access (i 95 (codes "true")) e.NoSelectors) e.NoOperations)))
+          (s.Sequence
+          (s.Assign
+          (record { name = (i 97 (codes "i")); selectors = e.NoSelectors })
+          98
+          (e.Sum (Some (record { at = 99; kind = sign.Minus })) (e.Access (i 100 (codes "c")) e.NoSelectors) e.NoOperations))
+          (s.Sequence
+          (s.Assign
+          (record { name = (i 102 (codes "i")); selectors = e.NoSelectors })
+          103
+          (e.Not 104 (e.Access (i 105 (codes "i")) e.NoSelectors)))
+          (s.Sequence
+          (s.Assign
+          (record { name = (i 107 (codes "bo")); selectors = e.NoSelectors })
+          108
+          (e.Relation (e.Access (i 109 (codes "i")) e.NoSelectors) 110 op.Equal (e.Access (i 111 (codes "c")) e.NoSelectors)))
+          (s.Sequence
+          (s.Assign
+          (record { name = (i 113 (codes "bo")); selectors = e.NoSelectors })
+          114
+          (e.Relation
+          (e.Access (i 115 (codes "str")) e.NoSelectors)
+          116
+          op.Equal
+          (e.Text (record { at = 117; characters = (97 ∷ 98 ∷ 99 ∷ []) }))))
+          (s.Sequence
+          (s.Assign
+          (record { name = (i 119 (codes "bo")); selectors = e.NoSelectors })
+          120
+          (e.Relation
+          (e.Access (i 121 (codes "str")) e.NoSelectors)
+          122
+          op.Less
+          (e.Text (record { at = 123; characters = (97 ∷ 98 ∷ 99 ∷ 100 ∷ []) }))))
+          (s.Sequence
+          (s.Assign
+          (record { name = (i 125 (codes "bo")); selectors = e.NoSelectors })
+          126
+          (e.Relation (e.Access (i 127 (codes "pn")) e.NoSelectors) 128 op.Equal (e.Nil 129)))
+          (s.Sequence
+          (s.Assign
+          (record { name = (i 131 (codes "bo")); selectors = e.NoSelectors })
+          132
+          (e.Relation (e.Access (i 133 (codes "pn")) e.NoSelectors) 134 op.Less (e.Nil 135)))
+          (s.Sequence
+          (s.Assign
+          (record { name = (i 137 (codes "bo")); selectors = e.NoSelectors })
+          138
+          (e.Relation (e.Access (i 139 (codes "i")) e.NoSelectors) 140 op.In (e.Access (i 141 (codes "se")) e.NoSelectors)))
+          (s.Sequence
+          (s.Assign
+          (record { name = (i 143 (codes "bo")); selectors = e.NoSelectors })
+          144
+          (e.Relation (e.Access (i 145 (codes "c")) e.NoSelectors) 146 op.In (e.Access (i 147 (codes "se")) e.NoSelectors)))
+          (s.Sequence
+          (s.Assign
+          (record { name = (i 149 (codes "bo")); selectors = e.NoSelectors })
+          150
+          (e.Relation
+          (e.Access (i 151 (codes "se")) e.NoSelectors)
+          152
+          op.LessOrEqual
+          (e.Set 153 (e.Member (e.Number (n 154 1)) (e.Member (e.Number (n 156 2)) e.NoMembers)))))
+          (s.Sequence
+          (s.Assign
+          (record { name = (i 159 (codes "bo")); selectors = e.NoSelectors })
+          160
+          (e.Relation
+          (e.Access (i 161 (codes "se")) e.NoSelectors)
+          162
+          op.Less
+          (e.Set 163 (e.Member (e.Number (n 164 1)) e.NoMembers))))
+          (s.Sequence
+          (s.Assign
+          (record { name = (i 167 (codes "se")); selectors = e.NoSelectors })
+          168
+          (e.Set 169
+          (e.Member
+          (e.Number (n 170 1))
+          (e.Member
+          (e.Text (record { at = 172; characters = (97 ∷ []) }))
+          (e.MemberRange
+          (e.Number (n 174 2))
+          (e.Number (n 176 3))
+          (e.Member (e.Access (i 178 (codes "true")) e.NoSelectors) e.NoMembers))))))
+          (s.Sequence
+          (s.Assign
+          (record { name = (i 181 (codes "se")); selectors = e.NoSelectors })
+          182
+          (e.Set 183 (e.Member (e.Access (i 184 (codes "str")) e.NoSelectors) e.NoMembers)))
+          (s.Sequence
+          (s.Assign
+          (record { name = (i 187 (codes "se")); selectors = e.NoSelectors })
+          188
+          (e.Sum None
+          (e.Access (i 189 (codes "se")) e.NoSelectors)
+          (e.Operation 190 op.Add
+          (e.Set 191 (e.Member (e.Access (i 192 (codes "i")) e.NoSelectors) e.NoMembers))
+          e.NoOperations)))
+          (s.Sequence
+          (s.Assign
+          (record { name = (i 195 (codes "se")); selectors = e.NoSelectors })
+          196
+          (e.Product
+          (e.Access (i 197 (codes "se")) e.NoSelectors)
+          (e.Operation 198 op.Multiply
+          (e.Set 199 (e.Member (e.Access (i 200 (codes "en")) e.NoSelectors) e.NoMembers))
+          e.NoOperations)))
+          (s.Sequence
+          (s.Assign
+          (record { name = (i 203 (codes "i")); selectors = e.NoSelectors })
+          204
+          (e.Sum None
+          (e.Access
+          (i 205 (codes "arr"))
+          (e.Index 206 (e.Access (i 207 (codes "c")) e.NoSelectors) e.NoSelectors))
+          (e.Operation 209 op.Add
+          (e.Access
+          (i 210 (codes "arr"))
+          (e.Index 211 (e.Access (i 212 (codes "i")) e.NoSelectors) e.NoSelectors))
+          (e.Operation 214 op.Add
+          (e.Access
+          (i 215 (codes "arr"))
+          (e.Index 216 (e.Access (i 217 (codes "undecl")) e.NoSelectors) e.NoSelectors))
+          e.NoOperations))))
+          (s.Sequence
+          (s.Assign
+          (record { name = (i 220 (codes "i")); selectors = e.NoSelectors })
+          221
+          (e.Sum None
+          (e.Access (i 222 (codes "undecl")) e.NoSelectors)
+          (e.Operation 223 op.Add (e.Access (i 224 (codes "true")) e.NoSelectors) e.NoOperations)))
+          (s.Sequence
+          (s.Assign
+          (record { name = (i 226 (codes "bo")); selectors = e.NoSelectors })
+          227
+          (e.Relation
+          (e.Inside 228
+          (e.Relation
+          (e.Access (i 229 (codes "undecl")) e.NoSelectors)
+          230
+          op.Equal
+          (e.Number (n 231 1))))
+          233
+          op.Equal
+          (e.Number (n 234 2))))
+          (s.Sequence
+          (s.Assign
+          (record { name = (i 236 (codes "i")); selectors = e.NoSelectors })
+          237
+          (e.Product
+          (e.Access (i 238 (codes "i")) e.NoSelectors)
+          (e.Operation 239 op.Div
+          (e.Number (n 240 2))
+          (e.Operation 241 op.Mod (e.Access (i 242 (codes "true")) e.NoSelectors) e.NoOperations))))
+          (s.Sequence
+          (s.Assign
+          (record { name = (i 244 (codes "bo")); selectors = e.NoSelectors })
+          245
+          (e.Sum None
+          (e.Product
+          (e.Access (i 246 (codes "bo")) e.NoSelectors)
+          (e.Operation 247 op.And (e.Access (i 248 (codes "i")) e.NoSelectors) e.NoOperations))
+          (e.Operation 249 op.Or (e.Access (i 250 (codes "bo")) e.NoSelectors) e.NoOperations)))
+          (s.Sequence
+          (s.Assign
+          (record { name = (i 252 (codes "c")); selectors = e.NoSelectors })
+          253
+          (e.Access (i 254 (codes "str")) (e.Index 255 (e.Number (n 256 1)) e.NoSelectors)))
+          (s.Sequence
+          (s.Assign
+          (record { name = (i 259 (codes "str")); selectors = e.NoSelectors })
+          260
+          (e.Text (record { at = 261; characters = (97 ∷ 98 ∷ 99 ∷ []) })))
+          (s.Sequence
+          (s.Assign
+          (record { name = (i 263 (codes "str")); selectors = e.NoSelectors })
+          264
+          (e.Text (record { at = 265; characters = (97 ∷ 98 ∷ []) })))
+          (s.Sequence
+          (s.Assign
+          (record { name = (i 267 (codes "arr")); selectors = e.NoSelectors })
+          268
+          (e.Access (i 269 (codes "arr")) e.NoSelectors))
+          (s.Sequence
+          (s.Assign
+          (record { name = (i 271 (codes "t")); selectors = e.NoSelectors })
+          272
+          (e.Access (i 273 (codes "t")) e.NoSelectors))
+          (s.Sequence
+          (s.Assign
+          (record { name = (i 275 (codes "pn")); selectors = e.NoSelectors })
+          276
+          (e.Nil 277))
+          (s.Sequence
+          (s.Assign
+          (record { name = (i 279 (codes "en")); selectors = e.NoSelectors })
+          280
+          (e.Access (i 281 (codes "r")) e.NoSelectors))
+          (s.Sequence
+          (s.Assign
+          (record { name = (i 283 (codes "en")); selectors = e.NoSelectors })
+          284
+          (e.Access (i 285 (codes "i")) e.NoSelectors))
+          (s.Sequence
+          (s.Assign
+          (record { name = (i 287 (codes "i")); selectors = e.NoSelectors })
+          288
+          (e.Sum None
+          (e.Call
+          (i 289 (codes "ord"))
+          (e.Actual (e.Access (i 291 (codes "en")) e.NoSelectors) e.NoActuals))
+          (e.Operation 293
+          op.Add
+          (e.Call
+          (i 294 (codes "abs"))
+          (e.Actual (e.Access (i 296 (codes "c")) e.NoSelectors) e.NoActuals))
+          (e.Operation 298
+          op.Add
+          (e.Call
+          (i 299 (codes "sqr"))
+          (e.Actual
+          (e.Number (n 301 1))
+          (e.Actual (e.Number (n 303 2)) e.NoActuals)))
+          (e.Operation 305
+          op.Add
+          (e.Call
+          (i 306 (codes "succ"))
+          (e.Actual
+          (e.Access (i 308 (codes "i")) e.NoSelectors)
+          e.NoActuals))
+          e.NoOperations)))))
+          (s.Sequence
+          (s.Assign
+          (record { name = (i 311 (codes "c")); selectors = e.NoSelectors })
+          312
+          (e.Call
+          (i 313 (codes "chr"))
+          (e.Actual (e.Access (i 315 (codes "i")) e.NoSelectors) e.NoActuals)))
+          (s.Sequence
+          (s.Assign
+          (record { name = (i 318 (codes "bo")); selectors = e.NoSelectors })
+          319
+          (e.Call
+          (i 320 (codes "odd"))
+          (e.Actual (e.Access (i 322 (codes "i")) e.NoSelectors) e.NoActuals)))
+          (s.Sequence
+          (s.Assign
+          (record { name = (i 325 (codes "en")); selectors = e.NoSelectors })
+          326
+          (e.Call
+          (i 327 (codes "pred"))
+          (e.Actual
+          (e.Access (i 329 (codes "en")) e.NoSelectors)
+          (e.Actual
+          (e.Access (i 331 (codes "en")) e.NoSelectors)
+          e.NoActuals))))
+          (s.Sequence
+          (s.Assign
+          (record { name = (i 334 (codes "i")); selectors = e.NoSelectors })
+          335
+          (e.Sum
+          (Some (record { at = 336; kind = sign.Minus }))
+          (e.Access (i 337 (codes "i")) e.NoSelectors)
+          (e.Operation 338 op.Add (e.Number (n 339 3)) e.NoOperations)))
+          s.NoStatements)))))))))))))))))))))))))))))))))) 340;
       tokens = 342;
     })
     tree.NoTrees)
@@ -1508,42 +1508,42 @@ procedural_parameters =
           ∷ []);
       statements =
           tree.Compound 95 (s.Sequence
-                (s.Call (i 96 (codes "a")) (e.Actual (e.Number (n 98 1)) (e.Actual (e.Access (i 100 (codes "b")) e.NoSelectors) e.NoActuals)))
-                (s.Sequence
-                (s.Call (i 103 (codes "a")) (e.Actual (e.Number (n 105 1)) (e.Actual (e.Access (i 107 (codes "c")) e.NoSelectors) e.NoActuals)))
-                (s.Sequence
-                (s.Call (i 110 (codes "a")) (e.Actual (e.Number (n 112 1)) (e.Actual (e.Access (i 114 (codes "f")) e.NoSelectors) e.NoActuals)))
-                (s.Sequence
-                (s.Call (i 117 (codes "a")) (e.Actual (e.Number (n 119 1)) (e.Actual (e.Number (n 121 1)) e.NoActuals)))
-                (s.Sequence
-                (s.Call
-                (i 124 (codes "a"))
-                (e.Actual (e.Number (n 126 1)) (e.Actual (e.Access (i 128 (codes "t")) e.NoSelectors) e.NoActuals)))
-                (s.Sequence
-                (s.Call
-                (i 131 (codes "a"))
-                (e.Actual (e.Number (n 133 1)) (e.Actual (e.Access (i 135 (codes "write")) e.NoSelectors) e.NoActuals)))
-                (s.Sequence
-                (s.Call
-                (i 138 (codes "a"))
-                (e.Actual (e.Number (n 140 1)) (e.Actual (e.Access (i 142 (codes "undecl")) e.NoSelectors) e.NoActuals)))
-                (s.Sequence
-                (s.Call
-                (i 145 (codes "a"))
-                (e.Actual
-                (e.Number (n 147 1))
-                (e.Actual (e.Call (i 149 (codes "b")) (e.Actual (e.Number (n 151 1)) e.NoActuals)) e.NoActuals)))
-                (s.Sequence
-                (s.If 155
-                (e.Relation
-                (e.Call (i 156 (codes "g")) (e.Actual (e.Access (i 158 (codes "h1")) e.NoSelectors) e.NoActuals))
-                160
-                op.Equal
-                (e.Call (i 161 (codes "g")) (e.Actual (e.Access (i 163 (codes "h2")) e.NoSelectors) e.NoActuals)))
-                (s.Empty 166))
-                (s.Sequence
-                (s.Call (i 167 (codes "f")) (e.Actual (e.Number (n 169 1)) (e.Actual (e.Number (n 171 2)) e.NoActuals)))
-                (s.Sequence (s.Call (i 174 (codes "g")) e.NoActuals) s.NoStatements))))))))))) 175;
+          (s.Call (i 96 (codes "a")) (e.Actual (e.Number (n 98 1)) (e.Actual (e.Access (i 100 (codes "b")) e.NoSelectors) e.NoActuals)))
+          (s.Sequence
+          (s.Call (i 103 (codes "a")) (e.Actual (e.Number (n 105 1)) (e.Actual (e.Access (i 107 (codes "c")) e.NoSelectors) e.NoActuals)))
+          (s.Sequence
+          (s.Call (i 110 (codes "a")) (e.Actual (e.Number (n 112 1)) (e.Actual (e.Access (i 114 (codes "f")) e.NoSelectors) e.NoActuals)))
+          (s.Sequence
+          (s.Call (i 117 (codes "a")) (e.Actual (e.Number (n 119 1)) (e.Actual (e.Number (n 121 1)) e.NoActuals)))
+          (s.Sequence
+          (s.Call
+          (i 124 (codes "a"))
+          (e.Actual (e.Number (n 126 1)) (e.Actual (e.Access (i 128 (codes "t")) e.NoSelectors) e.NoActuals)))
+          (s.Sequence
+          (s.Call
+          (i 131 (codes "a"))
+          (e.Actual (e.Number (n 133 1)) (e.Actual (e.Access (i 135 (codes "write")) e.NoSelectors) e.NoActuals)))
+          (s.Sequence
+          (s.Call
+          (i 138 (codes "a"))
+          (e.Actual (e.Number (n 140 1)) (e.Actual (e.Access (i 142 (codes "undecl")) e.NoSelectors) e.NoActuals)))
+          (s.Sequence
+          (s.Call
+          (i 145 (codes "a"))
+          (e.Actual
+          (e.Number (n 147 1))
+          (e.Actual (e.Call (i 149 (codes "b")) (e.Actual (e.Number (n 151 1)) e.NoActuals)) e.NoActuals)))
+          (s.Sequence
+          (s.If 155
+          (e.Relation
+          (e.Call (i 156 (codes "g")) (e.Actual (e.Access (i 158 (codes "h1")) e.NoSelectors) e.NoActuals))
+          160
+          op.Equal
+          (e.Call (i 161 (codes "g")) (e.Actual (e.Access (i 163 (codes "h2")) e.NoSelectors) e.NoActuals)))
+          (s.Empty 166))
+          (s.Sequence
+          (s.Call (i 167 (codes "f")) (e.Actual (e.Number (n 169 1)) (e.Actual (e.Number (n 171 2)) e.NoActuals)))
+          (s.Sequence (s.Call (i 174 (codes "g")) e.NoActuals) s.NoStatements))))))))))) 175;
       tokens = 177;
     })
     (tree.Beside
@@ -1557,10 +1557,10 @@ procedural_parameters =
       declarations = [];
       statements =
           tree.Compound 0 (s.Sequence
-                (s.Call (i 1 (codes "pr")) (e.Actual (e.Number (n 3 1)) (e.Actual (e.Access (i 5 (codes "x")) e.NoSelectors) e.NoActuals)))
-                (s.Sequence
-                (s.Call (i 8 (codes "pr")) (e.Actual (e.Number (n 10 1)) e.NoActuals))
-                (s.Sequence (s.Call (i 13 (codes "pr")) e.NoActuals) s.NoStatements))) 14;
+          (s.Call (i 1 (codes "pr")) (e.Actual (e.Number (n 3 1)) (e.Actual (e.Access (i 5 (codes "x")) e.NoSelectors) e.NoActuals)))
+          (s.Sequence
+          (s.Call (i 8 (codes "pr")) (e.Actual (e.Number (n 10 1)) e.NoActuals))
+          (s.Sequence (s.Call (i 13 (codes "pr")) e.NoActuals) s.NoStatements))) 14;
       tokens = 15;
     })
     tree.NoTrees)
@@ -1601,15 +1601,15 @@ procedural_parameters =
       declarations = [];
       statements =
           tree.Compound 0 (s.Sequence
-                (s.Assign (record { name = (i 1 (codes "f")); selectors = e.NoSelectors }) 2 (e.Number (n 3 1)))
-                (s.Sequence
-                (s.Assign
-                (record { name = (i 5 (codes "f")); selectors = e.NoSelectors })
-                6
-                (e.Call
-                (i 7 (codes "f"))
-                (e.Actual (e.Number (n 9 1)) (e.Actual (e.Access (i 11 (codes "z")) e.NoSelectors) e.NoActuals))))
-                s.NoStatements)) 13;
+          (s.Assign (record { name = (i 1 (codes "f")); selectors = e.NoSelectors }) 2 (e.Number (n 3 1)))
+          (s.Sequence
+          (s.Assign
+          (record { name = (i 5 (codes "f")); selectors = e.NoSelectors })
+          6
+          (e.Call
+          (i 7 (codes "f"))
+          (e.Actual (e.Number (n 9 1)) (e.Actual (e.Access (i 11 (codes "z")) e.NoSelectors) e.NoActuals))))
+          s.NoStatements)) 13;
       tokens = 14;
     })
     tree.NoTrees)
@@ -1624,19 +1624,19 @@ procedural_parameters =
       declarations = [];
       statements =
           tree.Compound 0 (s.Sequence
-                (s.Assign (record { name = (i 1 (codes "g")); selectors = e.NoSelectors }) 2 (e.Access (i 3 (codes "h")) e.NoSelectors))
-                (s.Sequence
-                (s.Assign (record { name = (i 5 (codes "h")); selectors = e.NoSelectors }) 6 (e.Number (n 7 1)))
-                (s.Sequence
-                (s.Assign
-                (record { name = (i 9 (codes "g")); selectors = e.NoSelectors })
-                10
-                (e.Sum None
-                (e.Access (i 11 (codes "h")) e.NoSelectors)
-                (e.Operation 12 op.Add
-                (e.Call (i 13 (codes "g")) (e.Actual (e.Access (i 15 (codes "h")) e.NoSelectors) e.NoActuals))
-                e.NoOperations)))
-                s.NoStatements))) 17;
+          (s.Assign (record { name = (i 1 (codes "g")); selectors = e.NoSelectors }) 2 (e.Access (i 3 (codes "h")) e.NoSelectors))
+          (s.Sequence
+          (s.Assign (record { name = (i 5 (codes "h")); selectors = e.NoSelectors }) 6 (e.Number (n 7 1)))
+          (s.Sequence
+          (s.Assign
+          (record { name = (i 9 (codes "g")); selectors = e.NoSelectors })
+          10
+          (e.Sum None
+          (e.Access (i 11 (codes "h")) e.NoSelectors)
+          (e.Operation 12 op.Add
+          (e.Call (i 13 (codes "g")) (e.Actual (e.Access (i 15 (codes "h")) e.NoSelectors) e.NoActuals))
+          e.NoOperations)))
+          s.NoStatements))) 17;
       tokens = 18;
     })
     tree.NoTrees)
@@ -1651,8 +1651,8 @@ procedural_parameters =
       declarations = [];
       statements =
           tree.Compound 0 (s.Sequence
-                (s.Assign (record { name = (i 1 (codes "h1")); selectors = e.NoSelectors }) 2 (e.Number (n 3 1)))
-                s.NoStatements) 4;
+          (s.Assign (record { name = (i 1 (codes "h1")); selectors = e.NoSelectors }) 2 (e.Number (n 3 1)))
+          s.NoStatements) 4;
       tokens = 5;
     })
     tree.NoTrees)
@@ -1667,11 +1667,11 @@ procedural_parameters =
       declarations = [];
       statements =
           tree.Compound 0 (s.Sequence
-                (s.Assign
-                (record { name = (i 1 (codes "h2")); selectors = e.NoSelectors })
-                2
-                (e.Text (record { at = 3; characters = (97 ∷ []) })))
-                s.NoStatements) 4;
+          (s.Assign
+          (record { name = (i 1 (codes "h2")); selectors = e.NoSelectors })
+          2
+          (e.Text (record { at = 3; characters = (97 ∷ []) })))
+          s.NoStatements) 4;
       tokens = 5;
     })
     tree.NoTrees)
@@ -1724,205 +1724,205 @@ statements =
           ∷ []);
       statements =
           tree.Compound 44 (s.Sequence
-                (s.If 45 (e.Access (i 46 (codes "i")) e.NoSelectors) (s.Empty 48))
-                (s.Sequence
-                (s.While 49 (e.Access (i 50 (codes "c")) e.NoSelectors) (s.Empty 52))
-                (s.Sequence
-                (s.Repeat 53 (s.Sequence (s.Empty 54) s.NoStatements) (e.Number (n 55 1)))
-                (s.Sequence
-                (s.Case 57
-                (e.Access (i 58 (codes "i")) e.NoSelectors)
-                (s.Arm
-                ((c.Number None (n 60 1)) ∷ [])
-                (s.Empty 62)
-                (s.Arm
-                ((c.Text (record { at = 63; characters = (97 ∷ []) })) ∷ [])
-                (s.Empty 65)
-                (s.Arm
-                ((c.Number None (n 66 1)) ∷ (c.Number None (n 68 2)) ∷ [])
-                (s.Empty 70)
-                (s.Arm ((c.Number (Some (record { at = 71; kind = sign.Minus })) (n 72 2)) ∷ []) (s.Empty 74) s.NoArms)))))
-                (s.Sequence
-                (s.Case 76 (e.Access (i 77 (codes "r")) e.NoSelectors) (s.Arm ((c.Number None (n 79 1)) ∷ []) (s.Empty 81) s.NoArms))
-                (s.Sequence
-                (s.Case 84
-                (e.Access (i 85 (codes "c")) e.NoSelectors)
-                (s.Arm
-                ((c.Text (record { at = 87; characters = (97 ∷ []) })) ∷ [])
-                (s.Empty 89)
-                (s.Arm
-                ((c.Text (record { at = 90; characters = (98 ∷ []) })) ∷ (c.Text (record { at = 92; characters = (97 ∷ []) })) ∷ [])
-                (s.Empty 94)
-                s.NoArms)))
-                (s.Sequence
-                (s.For 96
-                (record {
-                  variable = (i 97 (codes "j"));
-                  assign = 98;
-                  first = (e.Text (record { at = 99; characters = (97 ∷ []) }));
-                  direction = direction.To;
-                  last = (e.Number (n 101 2));
-                })
-                (s.Compound 103
-                (s.Sequence
-                (s.Assign (record { name = (i 104 (codes "j")); selectors = e.NoSelectors }) 105 (e.Number (n 106 1)))
-                (s.Sequence
-                (s.Call
-                (i 108 (codes "q"))
-                (e.Actual (e.Number (n 110 1)) (e.Actual (e.Access (i 112 (codes "j")) e.NoSelectors) e.NoActuals)))
-                (s.Sequence
-                (s.Call
-                (i 115 (codes "q"))
-                (e.Actual
-                (e.Access (i 117 (codes "j")) e.NoSelectors)
-                (e.Actual (e.Access (i 119 (codes "i")) e.NoSelectors) e.NoActuals)))
-                (s.Sequence
-                (s.For 122
-                (record {
-                  variable = (i 123 (codes "j"));
-                  assign = 124;
-                  first = (e.Number (n 125 1));
-                  direction = direction.To;
-                  last = (e.Number (n 127 2));
-                })
-                (s.Empty 129))
-                s.NoStatements))))))
-                (s.Sequence
-                (s.For 131
-                (record {
-                  variable = (i 132 (codes "r"));
-                  assign = 133;
-                  first = (e.Number (n 134 1));
-                  direction = direction.To;
-                  last = (e.Number (n 136 2));
-                })
-                (s.Empty 138))
-                (s.Sequence
-                (s.For 139
-                (record {
-                  variable = (i 140 (codes "q"));
-                  assign = 141;
-                  first = (e.Number (n 142 1));
-                  direction = direction.To;
-                  last = (e.Number (n 144 2));
-                })
-                (s.Empty 146))
-                (s.Sequence
-                (s.For 147
-                (record {
-                  variable = (i 148 (codes "t"));
-                  assign = 149;
-                  first = (e.Number (n 150 1));
-                  direction = direction.To;
-                  last = (e.Number (n 152 2));
-                })
-                (s.Empty 154))
-                (s.Sequence
-                (s.For 155
-                (record {
-                  variable = (i 156 (codes "undecl"));
-                  assign = 157;
-                  first = (e.Number (n 158 1));
-                  direction = direction.To;
-                  last = (e.Number (n 160 2));
-                })
-                (s.Empty 162))
-                (s.Sequence
-                (s.With 163
-                ((record { name = (i 164 (codes "r")); selectors = e.NoSelectors }) ∷ [])
-                (s.For 166
-                (record {
-                  variable = (i 167 (codes "f"));
-                  assign = 168;
-                  first = (e.Number (n 169 1));
-                  direction = direction.To;
-                  last = (e.Number (n 171 2));
-                })
-                (s.Empty 173)))
-                (s.Sequence
-                (s.With 174 ((record { name = (i 175 (codes "i")); selectors = e.NoSelectors }) ∷ []) (s.Empty 177))
-                (s.Sequence
-                (s.With 178
-                ((record { name = (i 179 (codes "r")); selectors = e.NoSelectors }) ∷ [])
-                (s.Assign
-                (record { name = (i 181 (codes "f")); selectors = e.NoSelectors })
-                182
-                (e.Access (i 183 (codes "c")) e.NoSelectors)))
-                (s.Sequence
-                (s.Call (i 185 (codes "q")) (e.Actual (e.Number (n 187 1)) e.NoActuals))
-                (s.Sequence
-                (s.Call
-                (i 190 (codes "q"))
-                (e.Actual
-                (e.Number (n 192 1))
-                (e.Actual (e.Number (n 194 2)) (e.Actual (e.Number (n 196 3)) e.NoActuals))))
-                (s.Sequence
-                (s.Call
-                (i 199 (codes "q"))
-                (e.Actual
-                (e.Access (i 201 (codes "c")) e.NoSelectors)
-                (e.Actual (e.Access (i 203 (codes "i")) e.NoSelectors) e.NoActuals)))
-                (s.Sequence
-                (s.Call
-                (i 206 (codes "q"))
-                (e.Actual
-                (e.Access (i 208 (codes "i")) e.NoSelectors)
-                (e.Actual (e.Access (i 210 (codes "c")) e.NoSelectors) e.NoActuals)))
-                (s.Sequence
-                (s.Call
-                (i 213 (codes "q"))
-                (e.Actual (e.Number (n 215 1)) (e.Actual (e.Number (n 217 1)) e.NoActuals)))
-                (s.Sequence
-                (s.Call
-                (i 220 (codes "q"))
-                (e.ActualWithWidth
-                (e.Access (i 222 (codes "i")) e.NoSelectors)
-                223
-                (e.Number (n 224 3))
-                (e.Actual (e.Access (i 226 (codes "j")) e.NoSelectors) e.NoActuals)))
-                (s.Sequence
-                (s.Call (i 229 (codes "b")) (e.Actual (e.Number (n 231 1)) e.NoActuals))
-                (s.Sequence
-                (s.Call (i 234 (codes "i")) e.NoActuals)
-                (s.Sequence
-                (s.For 236
-                (record {
-                  variable = (i 237 (codes "i"));
-                  assign = 238;
-                  first = (e.Number (n 239 1));
-                  direction = direction.To;
-                  last = (e.Number (n 241 2));
-                })
-                (s.For 243
-                (record {
-                  variable = (i 244 (codes "i"));
-                  assign = 245;
-                  first = (e.Number (n 246 1));
-                  direction = direction.To;
-                  last = (e.Number (n 248 2));
-                })
-                (s.Empty 250)))
-                (s.Sequence
-                (s.For 251
-                (record {
-                  variable = (i 252 (codes "b"));
-                  assign = 253;
-                  first = (e.Access (i 254 (codes "false")) e.NoSelectors);
-                  direction = direction.To;
-                  last = (e.Access (i 256 (codes "true")) e.NoSelectors);
-                })
-                (s.Empty 258))
-                (s.Sequence
-                (s.For 259
-                (record {
-                  variable = (i 260 (codes "c"));
-                  assign = 261;
-                  first = (e.Text (record { at = 262; characters = (97 ∷ []) }));
-                  direction = direction.To;
-                  last = (e.Number (n 264 1));
-                })
-                (s.Empty 266))
-                s.NoStatements))))))))))))))))))))))))) 266;
+          (s.If 45 (e.Access (i 46 (codes "i")) e.NoSelectors) (s.Empty 48))
+          (s.Sequence
+          (s.While 49 (e.Access (i 50 (codes "c")) e.NoSelectors) (s.Empty 52))
+          (s.Sequence
+          (s.Repeat 53 (s.Sequence (s.Empty 54) s.NoStatements) (e.Number (n 55 1)))
+          (s.Sequence
+          (s.Case 57
+          (e.Access (i 58 (codes "i")) e.NoSelectors)
+          (s.Arm
+          ((c.Number None (n 60 1)) ∷ [])
+          (s.Empty 62)
+          (s.Arm
+          ((c.Text (record { at = 63; characters = (97 ∷ []) })) ∷ [])
+          (s.Empty 65)
+          (s.Arm
+          ((c.Number None (n 66 1)) ∷ (c.Number None (n 68 2)) ∷ [])
+          (s.Empty 70)
+          (s.Arm ((c.Number (Some (record { at = 71; kind = sign.Minus })) (n 72 2)) ∷ []) (s.Empty 74) s.NoArms)))))
+          (s.Sequence
+          (s.Case 76 (e.Access (i 77 (codes "r")) e.NoSelectors) (s.Arm ((c.Number None (n 79 1)) ∷ []) (s.Empty 81) s.NoArms))
+          (s.Sequence
+          (s.Case 84
+          (e.Access (i 85 (codes "c")) e.NoSelectors)
+          (s.Arm
+          ((c.Text (record { at = 87; characters = (97 ∷ []) })) ∷ [])
+          (s.Empty 89)
+          (s.Arm
+          ((c.Text (record { at = 90; characters = (98 ∷ []) })) ∷ (c.Text (record { at = 92; characters = (97 ∷ []) })) ∷ [])
+          (s.Empty 94)
+          s.NoArms)))
+          (s.Sequence
+          (s.For 96
+          (record {
+            variable = (i 97 (codes "j"));
+            assign = 98;
+            first = (e.Text (record { at = 99; characters = (97 ∷ []) }));
+            direction = direction.To;
+            last = (e.Number (n 101 2));
+          })
+          (s.Compound 103
+          (s.Sequence
+          (s.Assign (record { name = (i 104 (codes "j")); selectors = e.NoSelectors }) 105 (e.Number (n 106 1)))
+          (s.Sequence
+          (s.Call
+          (i 108 (codes "q"))
+          (e.Actual (e.Number (n 110 1)) (e.Actual (e.Access (i 112 (codes "j")) e.NoSelectors) e.NoActuals)))
+          (s.Sequence
+          (s.Call
+          (i 115 (codes "q"))
+          (e.Actual
+          (e.Access (i 117 (codes "j")) e.NoSelectors)
+          (e.Actual (e.Access (i 119 (codes "i")) e.NoSelectors) e.NoActuals)))
+          (s.Sequence
+          (s.For 122
+          (record {
+            variable = (i 123 (codes "j"));
+            assign = 124;
+            first = (e.Number (n 125 1));
+            direction = direction.To;
+            last = (e.Number (n 127 2));
+          })
+          (s.Empty 129))
+          s.NoStatements))))))
+          (s.Sequence
+          (s.For 131
+          (record {
+            variable = (i 132 (codes "r"));
+            assign = 133;
+            first = (e.Number (n 134 1));
+            direction = direction.To;
+            last = (e.Number (n 136 2));
+          })
+          (s.Empty 138))
+          (s.Sequence
+          (s.For 139
+          (record {
+            variable = (i 140 (codes "q"));
+            assign = 141;
+            first = (e.Number (n 142 1));
+            direction = direction.To;
+            last = (e.Number (n 144 2));
+          })
+          (s.Empty 146))
+          (s.Sequence
+          (s.For 147
+          (record {
+            variable = (i 148 (codes "t"));
+            assign = 149;
+            first = (e.Number (n 150 1));
+            direction = direction.To;
+            last = (e.Number (n 152 2));
+          })
+          (s.Empty 154))
+          (s.Sequence
+          (s.For 155
+          (record {
+            variable = (i 156 (codes "undecl"));
+            assign = 157;
+            first = (e.Number (n 158 1));
+            direction = direction.To;
+            last = (e.Number (n 160 2));
+          })
+          (s.Empty 162))
+          (s.Sequence
+          (s.With 163
+          ((record { name = (i 164 (codes "r")); selectors = e.NoSelectors }) ∷ [])
+          (s.For 166
+          (record {
+            variable = (i 167 (codes "f"));
+            assign = 168;
+            first = (e.Number (n 169 1));
+            direction = direction.To;
+            last = (e.Number (n 171 2));
+          })
+          (s.Empty 173)))
+          (s.Sequence
+          (s.With 174 ((record { name = (i 175 (codes "i")); selectors = e.NoSelectors }) ∷ []) (s.Empty 177))
+          (s.Sequence
+          (s.With 178
+          ((record { name = (i 179 (codes "r")); selectors = e.NoSelectors }) ∷ [])
+          (s.Assign
+          (record { name = (i 181 (codes "f")); selectors = e.NoSelectors })
+          182
+          (e.Access (i 183 (codes "c")) e.NoSelectors)))
+          (s.Sequence
+          (s.Call (i 185 (codes "q")) (e.Actual (e.Number (n 187 1)) e.NoActuals))
+          (s.Sequence
+          (s.Call
+          (i 190 (codes "q"))
+          (e.Actual
+          (e.Number (n 192 1))
+          (e.Actual (e.Number (n 194 2)) (e.Actual (e.Number (n 196 3)) e.NoActuals))))
+          (s.Sequence
+          (s.Call
+          (i 199 (codes "q"))
+          (e.Actual
+          (e.Access (i 201 (codes "c")) e.NoSelectors)
+          (e.Actual (e.Access (i 203 (codes "i")) e.NoSelectors) e.NoActuals)))
+          (s.Sequence
+          (s.Call
+          (i 206 (codes "q"))
+          (e.Actual
+          (e.Access (i 208 (codes "i")) e.NoSelectors)
+          (e.Actual (e.Access (i 210 (codes "c")) e.NoSelectors) e.NoActuals)))
+          (s.Sequence
+          (s.Call
+          (i 213 (codes "q"))
+          (e.Actual (e.Number (n 215 1)) (e.Actual (e.Number (n 217 1)) e.NoActuals)))
+          (s.Sequence
+          (s.Call
+          (i 220 (codes "q"))
+          (e.ActualWithWidth
+          (e.Access (i 222 (codes "i")) e.NoSelectors)
+          223
+          (e.Number (n 224 3))
+          (e.Actual (e.Access (i 226 (codes "j")) e.NoSelectors) e.NoActuals)))
+          (s.Sequence
+          (s.Call (i 229 (codes "b")) (e.Actual (e.Number (n 231 1)) e.NoActuals))
+          (s.Sequence
+          (s.Call (i 234 (codes "i")) e.NoActuals)
+          (s.Sequence
+          (s.For 236
+          (record {
+            variable = (i 237 (codes "i"));
+            assign = 238;
+            first = (e.Number (n 239 1));
+            direction = direction.To;
+            last = (e.Number (n 241 2));
+          })
+          (s.For 243
+          (record {
+            variable = (i 244 (codes "i"));
+            assign = 245;
+            first = (e.Number (n 246 1));
+            direction = direction.To;
+            last = (e.Number (n 248 2));
+          })
+          (s.Empty 250)))
+          (s.Sequence
+          (s.For 251
+          (record {
+            variable = (i 252 (codes "b"));
+            assign = 253;
+            first = (e.Access (i 254 (codes "false")) e.NoSelectors);
+            direction = direction.To;
+            last = (e.Access (i 256 (codes "true")) e.NoSelectors);
+          })
+          (s.Empty 258))
+          (s.Sequence
+          (s.For 259
+          (record {
+            variable = (i 260 (codes "c"));
+            assign = 261;
+            first = (e.Text (record { at = 262; characters = (97 ∷ []) }));
+            direction = direction.To;
+            last = (e.Number (n 264 1));
+          })
+          (s.Empty 266))
+          s.NoStatements))))))))))))))))))))))))) 266;
       tokens = 268;
     })
     (tree.Beside
@@ -1936,42 +1936,42 @@ statements =
       declarations = [];
       statements =
           tree.Compound 5 (s.Sequence
-                (s.Assign (record { name = (i 6 (codes "j")); selectors = e.NoSelectors }) 7 (e.Number (n 8 1)))
-                (s.Sequence
-                (s.Assign (record { name = (i 10 (codes "i")); selectors = e.NoSelectors }) 11 (e.Number (n 12 2)))
-                (s.Sequence
-                (s.For 14
-                (record {
-                  variable = (i 15 (codes "j"));
-                  assign = 16;
-                  first = (e.Number (n 17 1));
-                  direction = direction.To;
-                  last = (e.Number (n 19 2));
-                })
-                (s.Empty 21))
-                (s.Sequence
-                (s.Assign (record { name = (i 22 (codes "y")); selectors = e.NoSelectors }) 23 (e.Number (n 24 3)))
-                (s.Sequence
-                (s.For 26
-                (record {
-                  variable = (i 27 (codes "y"));
-                  assign = 28;
-                  first = (e.Number (n 29 1));
-                  direction = direction.To;
-                  last = (e.Number (n 31 2));
-                })
-                (s.Empty 33))
-                (s.Sequence
-                (s.For 34
-                (record {
-                  variable = (i 35 (codes "x"));
-                  assign = 36;
-                  first = (e.Number (n 37 1));
-                  direction = direction.To;
-                  last = (e.Number (n 39 2));
-                })
-                (s.Empty 41))
-                s.NoStatements)))))) 41;
+          (s.Assign (record { name = (i 6 (codes "j")); selectors = e.NoSelectors }) 7 (e.Number (n 8 1)))
+          (s.Sequence
+          (s.Assign (record { name = (i 10 (codes "i")); selectors = e.NoSelectors }) 11 (e.Number (n 12 2)))
+          (s.Sequence
+          (s.For 14
+          (record {
+            variable = (i 15 (codes "j"));
+            assign = 16;
+            first = (e.Number (n 17 1));
+            direction = direction.To;
+            last = (e.Number (n 19 2));
+          })
+          (s.Empty 21))
+          (s.Sequence
+          (s.Assign (record { name = (i 22 (codes "y")); selectors = e.NoSelectors }) 23 (e.Number (n 24 3)))
+          (s.Sequence
+          (s.For 26
+          (record {
+            variable = (i 27 (codes "y"));
+            assign = 28;
+            first = (e.Number (n 29 1));
+            direction = direction.To;
+            last = (e.Number (n 31 2));
+          })
+          (s.Empty 33))
+          (s.Sequence
+          (s.For 34
+          (record {
+            variable = (i 35 (codes "x"));
+            assign = 36;
+            first = (e.Number (n 37 1));
+            direction = direction.To;
+            last = (e.Number (n 39 2));
+          })
+          (s.Empty 41))
+          s.NoStatements)))))) 41;
       tokens = 42;
     })
     tree.NoTrees)
@@ -2014,183 +2014,183 @@ text_files =
       declarations = [];
       statements =
           tree.Compound 44 (s.Sequence
-                (s.Call (i 45 (codes "read")) (e.Actual (e.Access (i 47 (codes "i")) e.NoSelectors) e.NoActuals))
-                (s.Sequence
-                (s.Call
-                (i 50 (codes "read"))
-                (e.Actual (e.Access (i 52 (codes "f")) e.NoSelectors) (e.Actual (e.Access (i 54 (codes "i")) e.NoSelectors) e.NoActuals)))
-                (s.Sequence
-                (s.Call (i 57 (codes "read")) (e.Actual (e.Access (i 59 (codes "f")) e.NoSelectors) e.NoActuals))
-                (s.Sequence
-                (s.Call (i 62 (codes "readln")) (e.Actual (e.Access (i 64 (codes "f")) e.NoSelectors) e.NoActuals))
-                (s.Sequence
-                (s.Call (i 67 (codes "readln")) e.NoActuals)
-                (s.Sequence
-                (s.Call
-                (i 69 (codes "read"))
-                (e.Actual (e.Access (i 71 (codes "f")) e.NoSelectors) (e.Actual (e.Access (i 73 (codes "b")) e.NoSelectors) e.NoActuals)))
-                (s.Sequence
-                (s.Call
-                (i 76 (codes "read"))
-                (e.Actual (e.Access (i 78 (codes "f")) e.NoSelectors) (e.Actual (e.Number (n 80 1)) e.NoActuals)))
-                (s.Sequence
-                (s.Call (i 83 (codes "write")) (e.Actual (e.Access (i 85 (codes "f")) e.NoSelectors) e.NoActuals))
-                (s.Sequence
-                (s.Call (i 88 (codes "writeln")) (e.Actual (e.Access (i 90 (codes "f")) e.NoSelectors) e.NoActuals))
-                (s.Sequence
-                (s.Call (i 93 (codes "write")) e.NoActuals)
-                (s.Sequence
-                (s.Call (i 95 (codes "writeln")) e.NoActuals)
-                (s.Sequence
-                (s.Call
-                (i 97 (codes "write"))
-                (e.Actual
-                (e.Access (i 99 (codes "i")) e.NoSelectors)
-                (e.Actual
-                (e.Access (i 101 (codes "b")) e.NoSelectors)
-                (e.Actual
-                (e.Access (i 103 (codes "s")) e.NoSelectors)
-                (e.Actual
-                (e.Text (record { at = 105; characters = (120 ∷ []) }))
-                (e.Actual (e.Text (record { at = 107; characters = (120 ∷ 121 ∷ 122 ∷ []) })) e.NoActuals))))))
-                (s.Sequence
-                (s.Call (i 110 (codes "write")) (e.Actual (e.Access (i 112 (codes "a")) e.NoSelectors) e.NoActuals))
-                (s.Sequence
-                (s.Call
-                (i 115 (codes "write"))
-                (e.Actual
-                (e.Access (i 117 (codes "f")) e.NoSelectors)
-                (e.ActualWithWidth (e.Access (i 119 (codes "i")) e.NoSelectors) 120 (e.Number (n 121 3)) e.NoActuals)))
-                (s.Sequence
-                (s.Call
-                (i 124 (codes "write"))
-                (e.ActualWithWidth
-                (e.Access (i 126 (codes "i")) e.NoSelectors)
-                127
-                (e.Access (i 128 (codes "b")) e.NoSelectors)
-                e.NoActuals))
-                (s.Sequence
-                (s.Call (i 131 (codes "reset")) (e.Actual (e.Access (i 133 (codes "f")) e.NoSelectors) e.NoActuals))
-                (s.Sequence
-                (s.Call (i 136 (codes "reset")) e.NoActuals)
-                (s.Sequence
-                (s.Call
-                (i 138 (codes "reset"))
-                (e.Actual (e.Access (i 140 (codes "i")) e.NoSelectors) e.NoActuals))
-                (s.Sequence
-                (s.Call
-                (i 143 (codes "rewrite"))
-                (e.Actual
-                (e.Access (i 145 (codes "f")) e.NoSelectors)
-                (e.Actual (e.Access (i 147 (codes "f")) e.NoSelectors) e.NoActuals)))
-                (s.Sequence
-                (s.Call
-                (i 150 (codes "get"))
-                (e.ActualWithWidth
-                (e.Access (i 152 (codes "f")) e.NoSelectors)
-                153
-                (e.Number (n 154 2))
-                e.NoActuals))
-                (s.Sequence
-                (s.Call
-                (i 157 (codes "put"))
-                (e.Actual (e.Access (i 159 (codes "f")) e.NoSelectors) e.NoActuals))
-                (s.Sequence
-                (s.Call (i 162 (codes "page")) e.NoActuals)
-                (s.Sequence
-                (s.Call
-                (i 164 (codes "page"))
-                (e.Actual (e.Access (i 166 (codes "f")) e.NoSelectors) e.NoActuals))
-                (s.Sequence
-                (s.Call
-                (i 169 (codes "page"))
-                (e.Actual
-                (e.Access (i 171 (codes "f")) e.NoSelectors)
-                (e.Actual (e.Access (i 173 (codes "f")) e.NoSelectors) e.NoActuals)))
-                (s.Sequence
-                (s.Assign
-                (record { name = (i 176 (codes "b")); selectors = e.NoSelectors })
-                177
-                (e.Access (i 178 (codes "eof")) e.NoSelectors))
-                (s.Sequence
-                (s.Assign
-                (record { name = (i 180 (codes "b")); selectors = e.NoSelectors })
-                181
-                (e.Call
-                (i 182 (codes "eof"))
-                (e.Actual (e.Access (i 184 (codes "f")) e.NoSelectors) e.NoActuals)))
-                (s.Sequence
-                (s.Assign
-                (record { name = (i 187 (codes "b")); selectors = e.NoSelectors })
-                188
-                (e.Call
-                (i 189 (codes "eoln"))
-                (e.Actual (e.Access (i 191 (codes "i")) e.NoSelectors) e.NoActuals)))
-                (s.Sequence
-                (s.Assign
-                (record { name = (i 194 (codes "b")); selectors = e.NoSelectors })
-                195
-                (e.Call
-                (i 196 (codes "eof"))
-                (e.Actual
-                (e.Access (i 198 (codes "f")) e.NoSelectors)
-                (e.Actual (e.Access (i 200 (codes "f")) e.NoSelectors) e.NoActuals))))
-                (s.Sequence
-                (s.Assign
-                (record { name = (i 203 (codes "i")); selectors = e.NoSelectors })
-                204
-                (e.Access (i 205 (codes "f")) (e.Follow 206 e.NoSelectors)))
-                (s.Sequence
-                (s.Assign
-                (record {
-                  name = (i 208 (codes "f"));
-                  selectors = (e.Follow 209 e.NoSelectors);
-                })
-                210
-                (e.Text (record { at = 211; characters = (97 ∷ []) })))
-                (s.Sequence
-                (s.Call
-                (i 213 (codes "write"))
-                (e.Actual
-                (e.Access (i 215 (codes "undecl")) e.NoSelectors)
-                e.NoActuals))
-                (s.Sequence
-                (s.Call
-                (i 218 (codes "read"))
-                (e.Actual
-                (e.Access (i 220 (codes "undecl")) e.NoSelectors)
-                e.NoActuals))
-                (s.Sequence
-                (s.Call
-                (i 223 (codes "write"))
-                (e.ActualWithWidth
-                (e.Access (i 225 (codes "f")) e.NoSelectors)
-                226
-                (e.Number (n 227 3))
-                e.NoActuals))
-                (s.Sequence
-                (s.Call
-                (i 230 (codes "read"))
-                (e.Actual
-                (e.Access (i 232 (codes "f")) e.NoSelectors)
-                (e.Actual
-                (e.Access (i 234 (codes "f")) e.NoSelectors)
-                e.NoActuals)))
-                (s.Sequence
-                (s.Assign
-                (record {
-                  name = (i 237 (codes "output"));
-                  selectors = (e.Follow 238 e.NoSelectors);
-                })
-                239
-                (e.Text (record { at = 240; characters = (97 ∷ []) })))
-                (s.Sequence
-                (s.Call
-                (i 242 (codes "write"))
-                (e.Actual
-                (e.Access (i 244 (codes "output")) e.NoSelectors)
-                (e.Actual (e.Number (n 246 1)) e.NoActuals)))
-                s.NoStatements)))))))))))))))))))))))))))))))))))) 248;
+          (s.Call (i 45 (codes "read")) (e.Actual (e.Access (i 47 (codes "i")) e.NoSelectors) e.NoActuals))
+          (s.Sequence
+          (s.Call
+          (i 50 (codes "read"))
+          (e.Actual (e.Access (i 52 (codes "f")) e.NoSelectors) (e.Actual (e.Access (i 54 (codes "i")) e.NoSelectors) e.NoActuals)))
+          (s.Sequence
+          (s.Call (i 57 (codes "read")) (e.Actual (e.Access (i 59 (codes "f")) e.NoSelectors) e.NoActuals))
+          (s.Sequence
+          (s.Call (i 62 (codes "readln")) (e.Actual (e.Access (i 64 (codes "f")) e.NoSelectors) e.NoActuals))
+          (s.Sequence
+          (s.Call (i 67 (codes "readln")) e.NoActuals)
+          (s.Sequence
+          (s.Call
+          (i 69 (codes "read"))
+          (e.Actual (e.Access (i 71 (codes "f")) e.NoSelectors) (e.Actual (e.Access (i 73 (codes "b")) e.NoSelectors) e.NoActuals)))
+          (s.Sequence
+          (s.Call
+          (i 76 (codes "read"))
+          (e.Actual (e.Access (i 78 (codes "f")) e.NoSelectors) (e.Actual (e.Number (n 80 1)) e.NoActuals)))
+          (s.Sequence
+          (s.Call (i 83 (codes "write")) (e.Actual (e.Access (i 85 (codes "f")) e.NoSelectors) e.NoActuals))
+          (s.Sequence
+          (s.Call (i 88 (codes "writeln")) (e.Actual (e.Access (i 90 (codes "f")) e.NoSelectors) e.NoActuals))
+          (s.Sequence
+          (s.Call (i 93 (codes "write")) e.NoActuals)
+          (s.Sequence
+          (s.Call (i 95 (codes "writeln")) e.NoActuals)
+          (s.Sequence
+          (s.Call
+          (i 97 (codes "write"))
+          (e.Actual
+          (e.Access (i 99 (codes "i")) e.NoSelectors)
+          (e.Actual
+          (e.Access (i 101 (codes "b")) e.NoSelectors)
+          (e.Actual
+          (e.Access (i 103 (codes "s")) e.NoSelectors)
+          (e.Actual
+          (e.Text (record { at = 105; characters = (120 ∷ []) }))
+          (e.Actual (e.Text (record { at = 107; characters = (120 ∷ 121 ∷ 122 ∷ []) })) e.NoActuals))))))
+          (s.Sequence
+          (s.Call (i 110 (codes "write")) (e.Actual (e.Access (i 112 (codes "a")) e.NoSelectors) e.NoActuals))
+          (s.Sequence
+          (s.Call
+          (i 115 (codes "write"))
+          (e.Actual
+          (e.Access (i 117 (codes "f")) e.NoSelectors)
+          (e.ActualWithWidth (e.Access (i 119 (codes "i")) e.NoSelectors) 120 (e.Number (n 121 3)) e.NoActuals)))
+          (s.Sequence
+          (s.Call
+          (i 124 (codes "write"))
+          (e.ActualWithWidth
+          (e.Access (i 126 (codes "i")) e.NoSelectors)
+          127
+          (e.Access (i 128 (codes "b")) e.NoSelectors)
+          e.NoActuals))
+          (s.Sequence
+          (s.Call (i 131 (codes "reset")) (e.Actual (e.Access (i 133 (codes "f")) e.NoSelectors) e.NoActuals))
+          (s.Sequence
+          (s.Call (i 136 (codes "reset")) e.NoActuals)
+          (s.Sequence
+          (s.Call
+          (i 138 (codes "reset"))
+          (e.Actual (e.Access (i 140 (codes "i")) e.NoSelectors) e.NoActuals))
+          (s.Sequence
+          (s.Call
+          (i 143 (codes "rewrite"))
+          (e.Actual
+          (e.Access (i 145 (codes "f")) e.NoSelectors)
+          (e.Actual (e.Access (i 147 (codes "f")) e.NoSelectors) e.NoActuals)))
+          (s.Sequence
+          (s.Call
+          (i 150 (codes "get"))
+          (e.ActualWithWidth
+          (e.Access (i 152 (codes "f")) e.NoSelectors)
+          153
+          (e.Number (n 154 2))
+          e.NoActuals))
+          (s.Sequence
+          (s.Call
+          (i 157 (codes "put"))
+          (e.Actual (e.Access (i 159 (codes "f")) e.NoSelectors) e.NoActuals))
+          (s.Sequence
+          (s.Call (i 162 (codes "page")) e.NoActuals)
+          (s.Sequence
+          (s.Call
+          (i 164 (codes "page"))
+          (e.Actual (e.Access (i 166 (codes "f")) e.NoSelectors) e.NoActuals))
+          (s.Sequence
+          (s.Call
+          (i 169 (codes "page"))
+          (e.Actual
+          (e.Access (i 171 (codes "f")) e.NoSelectors)
+          (e.Actual (e.Access (i 173 (codes "f")) e.NoSelectors) e.NoActuals)))
+          (s.Sequence
+          (s.Assign
+          (record { name = (i 176 (codes "b")); selectors = e.NoSelectors })
+          177
+          (e.Access (i 178 (codes "eof")) e.NoSelectors))
+          (s.Sequence
+          (s.Assign
+          (record { name = (i 180 (codes "b")); selectors = e.NoSelectors })
+          181
+          (e.Call
+          (i 182 (codes "eof"))
+          (e.Actual (e.Access (i 184 (codes "f")) e.NoSelectors) e.NoActuals)))
+          (s.Sequence
+          (s.Assign
+          (record { name = (i 187 (codes "b")); selectors = e.NoSelectors })
+          188
+          (e.Call
+          (i 189 (codes "eoln"))
+          (e.Actual (e.Access (i 191 (codes "i")) e.NoSelectors) e.NoActuals)))
+          (s.Sequence
+          (s.Assign
+          (record { name = (i 194 (codes "b")); selectors = e.NoSelectors })
+          195
+          (e.Call
+          (i 196 (codes "eof"))
+          (e.Actual
+          (e.Access (i 198 (codes "f")) e.NoSelectors)
+          (e.Actual (e.Access (i 200 (codes "f")) e.NoSelectors) e.NoActuals))))
+          (s.Sequence
+          (s.Assign
+          (record { name = (i 203 (codes "i")); selectors = e.NoSelectors })
+          204
+          (e.Access (i 205 (codes "f")) (e.Follow 206 e.NoSelectors)))
+          (s.Sequence
+          (s.Assign
+          (record {
+            name = (i 208 (codes "f"));
+            selectors = (e.Follow 209 e.NoSelectors);
+          })
+          210
+          (e.Text (record { at = 211; characters = (97 ∷ []) })))
+          (s.Sequence
+          (s.Call
+          (i 213 (codes "write"))
+          (e.Actual
+          (e.Access (i 215 (codes "undecl")) e.NoSelectors)
+          e.NoActuals))
+          (s.Sequence
+          (s.Call
+          (i 218 (codes "read"))
+          (e.Actual
+          (e.Access (i 220 (codes "undecl")) e.NoSelectors)
+          e.NoActuals))
+          (s.Sequence
+          (s.Call
+          (i 223 (codes "write"))
+          (e.ActualWithWidth
+          (e.Access (i 225 (codes "f")) e.NoSelectors)
+          226
+          (e.Number (n 227 3))
+          e.NoActuals))
+          (s.Sequence
+          (s.Call
+          (i 230 (codes "read"))
+          (e.Actual
+          (e.Access (i 232 (codes "f")) e.NoSelectors)
+          (e.Actual
+          (e.Access (i 234 (codes "f")) e.NoSelectors)
+          e.NoActuals)))
+          (s.Sequence
+          (s.Assign
+          (record {
+            name = (i 237 (codes "output"));
+            selectors = (e.Follow 238 e.NoSelectors);
+          })
+          239
+          (e.Text (record { at = 240; characters = (97 ∷ []) })))
+          (s.Sequence
+          (s.Call
+          (i 242 (codes "write"))
+          (e.Actual
+          (e.Access (i 244 (codes "output")) e.NoSelectors)
+          (e.Actual (e.Number (n 246 1)) e.NoActuals)))
+          s.NoStatements)))))))))))))))))))))))))))))))))))) 248;
       tokens = 250;
     })
     tree.NoTrees)
@@ -2320,212 +2320,212 @@ pointers_and_packing =
           ∷ []);
       statements =
           tree.Compound 162 (s.Sequence
-                (s.Call (i 163 (codes "new")) (e.Actual (e.Access (i 165 (codes "v")) e.NoSelectors) e.NoActuals))
-                (s.Sequence
-                (s.Call
-                (i 168 (codes "new"))
-                (e.Actual (e.Access (i 170 (codes "v")) e.NoSelectors) (e.Actual (e.Access (i 172 (codes "red")) e.NoSelectors) e.NoActuals)))
-                (s.Sequence
-                (s.Call
-                (i 175 (codes "new"))
-                (e.Actual
-                (e.Access (i 177 (codes "v")) e.NoSelectors)
-                (e.Actual
-                (e.Access (i 179 (codes "red")) e.NoSelectors)
-                (e.Actual (e.Access (i 181 (codes "true")) e.NoSelectors) e.NoActuals))))
-                (s.Sequence
-                (s.Call
-                (i 184 (codes "new"))
-                (e.Actual
-                (e.Access (i 186 (codes "v")) e.NoSelectors)
-                (e.Actual
-                (e.Access (i 188 (codes "red")) e.NoSelectors)
-                (e.Actual (e.Access (i 190 (codes "true")) e.NoSelectors) (e.Actual (e.Number (n 192 1)) e.NoActuals)))))
-                (s.Sequence
-                (s.Call
-                (i 195 (codes "new"))
-                (e.Actual
-                (e.Access (i 197 (codes "v")) e.NoSelectors)
-                (e.Actual (e.Access (i 199 (codes "green")) e.NoSelectors) (e.Actual (e.Number (n 201 1)) e.NoActuals))))
-                (s.Sequence
-                (s.Call
-                (i 204 (codes "new"))
-                (e.Actual (e.Access (i 206 (codes "v")) e.NoSelectors) (e.Actual (e.Number (n 208 1)) e.NoActuals)))
-                (s.Sequence
-                (s.Call
-                (i 211 (codes "new"))
-                (e.Actual
-                (e.Access (i 213 (codes "v")) e.NoSelectors)
-                (e.Actual (e.Access (i 215 (codes "i")) e.NoSelectors) e.NoActuals)))
-                (s.Sequence
-                (s.Call (i 218 (codes "new")) (e.Actual (e.Nil 220) e.NoActuals))
-                (s.Sequence
-                (s.Call (i 223 (codes "new")) e.NoActuals)
-                (s.Sequence
-                (s.Call (i 225 (codes "dispose")) (e.Actual (e.Access (i 227 (codes "v")) e.NoSelectors) e.NoActuals))
-                (s.Sequence
-                (s.Call (i 230 (codes "dispose")) (e.Actual (e.Nil 232) e.NoActuals))
-                (s.Sequence
-                (s.Call (i 235 (codes "dispose")) (e.Actual (e.Access (i 237 (codes "i")) e.NoSelectors) e.NoActuals))
-                (s.Sequence
-                (s.Call
-                (i 240 (codes "dispose"))
-                (e.Actual
-                (e.Access (i 242 (codes "v")) e.NoSelectors)
-                (e.Actual (e.Access (i 244 (codes "green")) e.NoSelectors) e.NoActuals)))
-                (s.Sequence
-                (s.Call
-                (i 247 (codes "new"))
-                (e.Actual (e.Access (i 249 (codes "w")) e.NoSelectors) (e.Actual (e.Number (n 251 1)) e.NoActuals)))
-                (s.Sequence
-                (s.Call
-                (i 254 (codes "new"))
-                (e.Actual
-                (e.Access (i 256 (codes "undecl")) e.NoSelectors)
-                (e.Actual (e.Number (n 258 1)) e.NoActuals)))
-                (s.Sequence
-                (s.Call
-                (i 261 (codes "new"))
-                (e.ActualWithWidth (e.Access (i 263 (codes "w")) e.NoSelectors) 264 (e.Number (n 265 2)) e.NoActuals))
-                (s.Sequence
-                (s.Call
-                (i 268 (codes "pack"))
-                (e.Actual
-                (e.Access (i 270 (codes "b")) e.NoSelectors)
-                (e.Actual
-                (e.Access (i 272 (codes "i")) e.NoSelectors)
-                (e.Actual (e.Access (i 274 (codes "a")) e.NoSelectors) e.NoActuals))))
-                (s.Sequence
-                (s.Call
-                (i 277 (codes "pack"))
-                (e.Actual
-                (e.Access (i 279 (codes "a")) e.NoSelectors)
-                (e.Actual
-                (e.Access (i 281 (codes "i")) e.NoSelectors)
-                (e.Actual (e.Access (i 283 (codes "b")) e.NoSelectors) e.NoActuals))))
-                (s.Sequence
-                (s.Call
-                (i 286 (codes "pack"))
-                (e.Actual
-                (e.Access (i 288 (codes "b")) e.NoSelectors)
-                (e.Actual
-                (e.Text (record { at = 290; characters = (97 ∷ []) }))
-                (e.Actual (e.Access (i 292 (codes "a")) e.NoSelectors) e.NoActuals))))
-                (s.Sequence
-                (s.Call
-                (i 295 (codes "pack"))
-                (e.Actual
-                (e.Access (i 297 (codes "d")) e.NoSelectors)
-                (e.Actual
-                (e.Number (n 299 1))
-                (e.Actual (e.Access (i 301 (codes "a")) e.NoSelectors) e.NoActuals))))
-                (s.Sequence
-                (s.Call
-                (i 304 (codes "unpack"))
-                (e.Actual
-                (e.Access (i 306 (codes "a")) e.NoSelectors)
-                (e.Actual
-                (e.Access (i 308 (codes "b")) e.NoSelectors)
-                (e.Actual (e.Access (i 310 (codes "i")) e.NoSelectors) e.NoActuals))))
-                (s.Sequence
-                (s.Call
-                (i 313 (codes "unpack"))
-                (e.Actual
-                (e.Access (i 315 (codes "a")) e.NoSelectors)
-                (e.Actual
-                (e.Access (i 317 (codes "d")) e.NoSelectors)
-                (e.Actual (e.Access (i 319 (codes "i")) e.NoSelectors) e.NoActuals))))
-                (s.Sequence
-                (s.Call
-                (i 322 (codes "pack"))
-                (e.Actual
-                (e.Access (i 324 (codes "b")) e.NoSelectors)
-                (e.Actual (e.Access (i 326 (codes "i")) e.NoSelectors) e.NoActuals)))
-                (s.Sequence
-                (s.Assign
-                (record {
-                  name = (i 329 (codes "v"));
-                  selectors = (e.Follow 330 (e.Field 331 (i 332 (codes "n")) e.NoSelectors));
-                })
-                333
-                (e.Nil 334))
-                (s.Sequence
-                (s.Assign
-                (record {
-                  name = (i 336 (codes "v"));
-                  selectors = (e.Follow 337 (e.Field 338 (i 339 (codes "x")) e.NoSelectors));
-                })
-                340
-                (e.Number (n 341 1)))
-                (s.Sequence
-                (s.Assign
-                (record { name = (i 343 (codes "i")); selectors = e.NoSelectors })
-                344
-                (e.Access (i 345 (codes "v")) (e.Follow 346 (e.Follow 347 e.NoSelectors))))
-                (s.Sequence
-                (s.Assign
-                (record {
-                  name = (i 349 (codes "w"));
-                  selectors = (e.Follow 350 (e.Index 351 (e.Number (n 352 1)) e.NoSelectors));
-                })
-                354
-                (e.Text (record { at = 355; characters = (97 ∷ []) })))
-                (s.Sequence
-                (s.Call
-                (i 357 (codes "y"))
-                (e.Actual
-                (e.Access
-                (i 359 (codes "k"))
-                (e.Field 360 (i 361 (codes "k")) e.NoSelectors))
-                e.NoActuals))
-                (s.Sequence
-                (s.Call
-                (i 364 (codes "yb"))
-                (e.Actual
-                (e.Access
-                (i 366 (codes "k"))
-                (e.Field 367 (i 368 (codes "tg")) e.NoSelectors))
-                e.NoActuals))
-                (s.Sequence
-                (s.With 371
-                ((record { name = (i 372 (codes "k")); selectors = e.NoSelectors }) ∷ [])
-                (s.Compound 374
-                (s.Sequence
-                (s.Call
-                (i 375 (codes "y"))
-                (e.Actual (e.Access (i 377 (codes "k")) e.NoSelectors) e.NoActuals))
-                (s.Sequence
-                (s.Call
-                (i 380 (codes "yb"))
-                (e.Actual
-                (e.Access (i 382 (codes "tg")) e.NoSelectors)
-                e.NoActuals))
-                s.NoStatements))))
-                (s.Sequence
-                (s.Call
-                (i 386 (codes "y"))
-                (e.Actual
-                (e.Access
-                (i 388 (codes "v"))
-                (e.Follow 389 (e.Field 390 (i 391 (codes "x")) e.NoSelectors)))
-                e.NoActuals))
-                (s.Sequence
-                (s.Call
-                (i 394 (codes "y"))
-                (e.Actual (e.Access (i 396 (codes "i")) e.NoSelectors) e.NoActuals))
-                (s.Sequence
-                (s.Call
-                (i 399 (codes "y"))
-                (e.Actual
-                (e.Inside 401 (e.Access (i 402 (codes "i")) e.NoSelectors))
-                e.NoActuals))
-                (s.Sequence
-                (s.Call
-                (i 406 (codes "y"))
-                (e.Actual
-                (e.Access (i 408 (codes "red")) e.NoSelectors)
-                e.NoActuals))
-                s.NoStatements)))))))))))))))))))))))))))))))))) 410;
+          (s.Call (i 163 (codes "new")) (e.Actual (e.Access (i 165 (codes "v")) e.NoSelectors) e.NoActuals))
+          (s.Sequence
+          (s.Call
+          (i 168 (codes "new"))
+          (e.Actual (e.Access (i 170 (codes "v")) e.NoSelectors) (e.Actual (e.Access (i 172 (codes "red")) e.NoSelectors) e.NoActuals)))
+          (s.Sequence
+          (s.Call
+          (i 175 (codes "new"))
+          (e.Actual
+          (e.Access (i 177 (codes "v")) e.NoSelectors)
+          (e.Actual
+          (e.Access (i 179 (codes "red")) e.NoSelectors)
+          (e.Actual (e.Access (i 181 (codes "true")) e.NoSelectors) e.NoActuals))))
+          (s.Sequence
+          (s.Call
+          (i 184 (codes "new"))
+          (e.Actual
+          (e.Access (i 186 (codes "v")) e.NoSelectors)
+          (e.Actual
+          (e.Access (i 188 (codes "red")) e.NoSelectors)
+          (e.Actual (e.Access (i 190 (codes "true")) e.NoSelectors) (e.Actual (e.Number (n 192 1)) e.NoActuals)))))
+          (s.Sequence
+          (s.Call
+          (i 195 (codes "new"))
+          (e.Actual
+          (e.Access (i 197 (codes "v")) e.NoSelectors)
+          (e.Actual (e.Access (i 199 (codes "green")) e.NoSelectors) (e.Actual (e.Number (n 201 1)) e.NoActuals))))
+          (s.Sequence
+          (s.Call
+          (i 204 (codes "new"))
+          (e.Actual (e.Access (i 206 (codes "v")) e.NoSelectors) (e.Actual (e.Number (n 208 1)) e.NoActuals)))
+          (s.Sequence
+          (s.Call
+          (i 211 (codes "new"))
+          (e.Actual
+          (e.Access (i 213 (codes "v")) e.NoSelectors)
+          (e.Actual (e.Access (i 215 (codes "i")) e.NoSelectors) e.NoActuals)))
+          (s.Sequence
+          (s.Call (i 218 (codes "new")) (e.Actual (e.Nil 220) e.NoActuals))
+          (s.Sequence
+          (s.Call (i 223 (codes "new")) e.NoActuals)
+          (s.Sequence
+          (s.Call (i 225 (codes "dispose")) (e.Actual (e.Access (i 227 (codes "v")) e.NoSelectors) e.NoActuals))
+          (s.Sequence
+          (s.Call (i 230 (codes "dispose")) (e.Actual (e.Nil 232) e.NoActuals))
+          (s.Sequence
+          (s.Call (i 235 (codes "dispose")) (e.Actual (e.Access (i 237 (codes "i")) e.NoSelectors) e.NoActuals))
+          (s.Sequence
+          (s.Call
+          (i 240 (codes "dispose"))
+          (e.Actual
+          (e.Access (i 242 (codes "v")) e.NoSelectors)
+          (e.Actual (e.Access (i 244 (codes "green")) e.NoSelectors) e.NoActuals)))
+          (s.Sequence
+          (s.Call
+          (i 247 (codes "new"))
+          (e.Actual (e.Access (i 249 (codes "w")) e.NoSelectors) (e.Actual (e.Number (n 251 1)) e.NoActuals)))
+          (s.Sequence
+          (s.Call
+          (i 254 (codes "new"))
+          (e.Actual
+          (e.Access (i 256 (codes "undecl")) e.NoSelectors)
+          (e.Actual (e.Number (n 258 1)) e.NoActuals)))
+          (s.Sequence
+          (s.Call
+          (i 261 (codes "new"))
+          (e.ActualWithWidth (e.Access (i 263 (codes "w")) e.NoSelectors) 264 (e.Number (n 265 2)) e.NoActuals))
+          (s.Sequence
+          (s.Call
+          (i 268 (codes "pack"))
+          (e.Actual
+          (e.Access (i 270 (codes "b")) e.NoSelectors)
+          (e.Actual
+          (e.Access (i 272 (codes "i")) e.NoSelectors)
+          (e.Actual (e.Access (i 274 (codes "a")) e.NoSelectors) e.NoActuals))))
+          (s.Sequence
+          (s.Call
+          (i 277 (codes "pack"))
+          (e.Actual
+          (e.Access (i 279 (codes "a")) e.NoSelectors)
+          (e.Actual
+          (e.Access (i 281 (codes "i")) e.NoSelectors)
+          (e.Actual (e.Access (i 283 (codes "b")) e.NoSelectors) e.NoActuals))))
+          (s.Sequence
+          (s.Call
+          (i 286 (codes "pack"))
+          (e.Actual
+          (e.Access (i 288 (codes "b")) e.NoSelectors)
+          (e.Actual
+          (e.Text (record { at = 290; characters = (97 ∷ []) }))
+          (e.Actual (e.Access (i 292 (codes "a")) e.NoSelectors) e.NoActuals))))
+          (s.Sequence
+          (s.Call
+          (i 295 (codes "pack"))
+          (e.Actual
+          (e.Access (i 297 (codes "d")) e.NoSelectors)
+          (e.Actual
+          (e.Number (n 299 1))
+          (e.Actual (e.Access (i 301 (codes "a")) e.NoSelectors) e.NoActuals))))
+          (s.Sequence
+          (s.Call
+          (i 304 (codes "unpack"))
+          (e.Actual
+          (e.Access (i 306 (codes "a")) e.NoSelectors)
+          (e.Actual
+          (e.Access (i 308 (codes "b")) e.NoSelectors)
+          (e.Actual (e.Access (i 310 (codes "i")) e.NoSelectors) e.NoActuals))))
+          (s.Sequence
+          (s.Call
+          (i 313 (codes "unpack"))
+          (e.Actual
+          (e.Access (i 315 (codes "a")) e.NoSelectors)
+          (e.Actual
+          (e.Access (i 317 (codes "d")) e.NoSelectors)
+          (e.Actual (e.Access (i 319 (codes "i")) e.NoSelectors) e.NoActuals))))
+          (s.Sequence
+          (s.Call
+          (i 322 (codes "pack"))
+          (e.Actual
+          (e.Access (i 324 (codes "b")) e.NoSelectors)
+          (e.Actual (e.Access (i 326 (codes "i")) e.NoSelectors) e.NoActuals)))
+          (s.Sequence
+          (s.Assign
+          (record {
+            name = (i 329 (codes "v"));
+            selectors = (e.Follow 330 (e.Field 331 (i 332 (codes "n")) e.NoSelectors));
+          })
+          333
+          (e.Nil 334))
+          (s.Sequence
+          (s.Assign
+          (record {
+            name = (i 336 (codes "v"));
+            selectors = (e.Follow 337 (e.Field 338 (i 339 (codes "x")) e.NoSelectors));
+          })
+          340
+          (e.Number (n 341 1)))
+          (s.Sequence
+          (s.Assign
+          (record { name = (i 343 (codes "i")); selectors = e.NoSelectors })
+          344
+          (e.Access (i 345 (codes "v")) (e.Follow 346 (e.Follow 347 e.NoSelectors))))
+          (s.Sequence
+          (s.Assign
+          (record {
+            name = (i 349 (codes "w"));
+            selectors = (e.Follow 350 (e.Index 351 (e.Number (n 352 1)) e.NoSelectors));
+          })
+          354
+          (e.Text (record { at = 355; characters = (97 ∷ []) })))
+          (s.Sequence
+          (s.Call
+          (i 357 (codes "y"))
+          (e.Actual
+          (e.Access
+          (i 359 (codes "k"))
+          (e.Field 360 (i 361 (codes "k")) e.NoSelectors))
+          e.NoActuals))
+          (s.Sequence
+          (s.Call
+          (i 364 (codes "yb"))
+          (e.Actual
+          (e.Access
+          (i 366 (codes "k"))
+          (e.Field 367 (i 368 (codes "tg")) e.NoSelectors))
+          e.NoActuals))
+          (s.Sequence
+          (s.With 371
+          ((record { name = (i 372 (codes "k")); selectors = e.NoSelectors }) ∷ [])
+          (s.Compound 374
+          (s.Sequence
+          (s.Call
+          (i 375 (codes "y"))
+          (e.Actual (e.Access (i 377 (codes "k")) e.NoSelectors) e.NoActuals))
+          (s.Sequence
+          (s.Call
+          (i 380 (codes "yb"))
+          (e.Actual
+          (e.Access (i 382 (codes "tg")) e.NoSelectors)
+          e.NoActuals))
+          s.NoStatements))))
+          (s.Sequence
+          (s.Call
+          (i 386 (codes "y"))
+          (e.Actual
+          (e.Access
+          (i 388 (codes "v"))
+          (e.Follow 389 (e.Field 390 (i 391 (codes "x")) e.NoSelectors)))
+          e.NoActuals))
+          (s.Sequence
+          (s.Call
+          (i 394 (codes "y"))
+          (e.Actual (e.Access (i 396 (codes "i")) e.NoSelectors) e.NoActuals))
+          (s.Sequence
+          (s.Call
+          (i 399 (codes "y"))
+          (e.Actual
+          (e.Inside 401 (e.Access (i 402 (codes "i")) e.NoSelectors))
+          e.NoActuals))
+          (s.Sequence
+          (s.Call
+          (i 406 (codes "y"))
+          (e.Actual
+          (e.Access (i 408 (codes "red")) e.NoSelectors)
+          e.NoActuals))
+          s.NoStatements)))))))))))))))))))))))))))))))))) 410;
       tokens = 412;
     })
     (tree.Beside
