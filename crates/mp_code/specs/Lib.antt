@@ -1,0 +1,5 @@
+pub mod BlockCode
+pub mod Shape
+pub mod Reached
+pub mod ShapeExamples
+pub mod Drafts
