@@ -1,12 +1,12 @@
 -- The least index at which a clause fails is the lesser of two: that of the labels, and that of all other clauses.
-use Rattle.std.proofs.Common.{◌≡◌, ℕ, ◌+◌, ◌<◌, ◌≤◌, Bool, true, false, not, ◌||◌, ◌&&◌, List, [], ◌∷◌, length, map, Option, Some, None, MatchOption, refl, sym, ap, ap₂, ◌∙◌, subst, arith, inl, inr, ⊎_elim, eq-eqb}
+use Rattle.std.proofs.Common.{◌≡◌, ℕ, ◌+◌, ◌<◌, ◌≤◌, Bool, true, false, ◌||◌, ◌&&◌, List, [], ◌∷◌, length, map, Option, Some, None, MatchOption, refl, sym, ap, ap₂, ◌∙◌, subst, arith, inl, inr, eq-eqb}
 use Rattle.std.specs.Prelude.{nat_eq, nat_le}
 use Rattle.std.specs.List.{list_any}
 use Rattle.std.proofs.lemmas.Bool.{and_parts}
 use Rattle.mp_code.specs.BlockCode.{BlockCode}
 use Rattle.mp_code.specs.Drafts.{IsFirst, is_wrong_here, is_wrong_target}
 use Rattle.mp_code.specs.Shape.{IsShaped, IsFirstBad, fails_at, is_wrong_start, is_wrong_length, is_wrong_label, is_wrong_instruction, least_that, lesser_of}
-use Rattle.mp_code.proofs.ShapeLemmas.{StandsIn, IsLeast, NonePasses, IsRight, least_is_right, labelled, right_past_the_end}
+use Rattle.mp_code.proofs.ShapeLemmas.{StandsIn, IsLeast, IsRight, least_is_right, labelled, at_most, above, right_past_the_end}
 
 abbrev pub indexes : BlockCode → List ℕ
 indexes code = map (λ pair. pair.1) code.labels
@@ -77,12 +77,6 @@ one_further test n h e j less = by_test (nat_le n j) refl
     by_test true is = subst (λ k. test k ≡ false) (let o : n ≤ j = grind (arith, is) in omega (arith, o, less)) e
     by_test false is = h j (grind (arith, is))
 
-at_most : (k m : ℕ) → nat_le k m ≡ true → k ≤ m
-at_most k m is = grind (arith, is)
-
-above : (k m : ℕ) → nat_le k m ≡ false → m < k
-above k m is = grind (arith, is)
-
 -- ---- the lesser of the two
 
 abbrev pub joined : Option ℕ → Option ℕ → Option ℕ
@@ -106,7 +100,7 @@ joined_is_first code index h = by_both index (least_that (is_wrong_target code) 
     at_label m l = fails_by_label code m (label_is_wrong code m l.stands l.passes)
 
     by_order : (k m : ℕ) → IsFirst (is_wrong_here code) k → IsLeast (is_wrong_target code) (indexes code) m → (b : Bool) → nat_le k m ≡ b
-      → IsFound code (elim b as (λ is. Option ℕ) [ true ↦ Some k | false ↦ Some m ])
+        → IsFound code (elim b as (λ is. Option ℕ) [ true ↦ Some k | false ↦ Some m ])
     by_order k m f l true is = record { fails = fails_here code k f.passes; least = λ j less. fails_nowhere code j (f.least j less) (below m l j (let o = at_most k m is in omega (arith, o, less))) }
     by_order k m f l false is = record { fails = at_label m l; least = λ j less. fails_nowhere code j (f.least j (let o = above k m is in omega (arith, o, less))) (below m l j less) }
 

@@ -1,12 +1,15 @@
 -- Code of the right shape stays inside.
-use Rattle.std.proofs.Common.{◌≡◌, ◌⊎◌, inl, inr, ⊎_elim, ℕ, ◌+◌, ◌-◌, ◌<◌, ◌≤◌, Bool, true, false, not, ◌||◌, ◌&&◌, List, [], ◌∷◌, length, map, Option, Some, None, refl, sym, ap, ◌∙◌, subst, arith, eqb-true, eq-eqb}
+use Rattle.std.proofs.Common.{◌≡◌, ⊎_elim, ℕ, zero, suc, ◌+◌, ◌-◌, ◌<◌, ◌≤◌, Bool, true, false, not, ◌||◌, ◌&&◌, List, [], ◌∷◌, length, Option, Some, None, refl, sym, ap, ◌∙◌, subst, arith, eqb-true, eq-eqb}
 use Rattle.std.specs.Prelude.{nat_eq, nat_le, nat_lt, slice_get}
 use Rattle.std.specs.List.{list_any, list_all}
 use Rattle.std.proofs.lemmas.Bool.{and_parts, or_cases}
 use Rattle.mp_code.specs.declared.instructions.Instr.{Instr}
+use Rattle.mp_code.specs.declared.instructions.Operation.{Operation}
+use Rattle.mp_code.specs.declared.check.TheConstants.{OPERAND_LIMIT}
 use Rattle.mp_code.specs.BlockCode.{BlockCode, index_of_label}
 use Rattle.mp_code.specs.Reached.{Reached, Begun, Labelled, Led, IsServed, ReachedIsServed, is_one_of}
 use Rattle.mp_code.specs.Shape.{IsShaped, takes, puts, successors, is_bare, fails_at, is_wrong_start, is_wrong_length, is_wrong_label, is_wrong_instruction, instruction_is_right, leads_well, is_depth, is_right}
+use Rattle.mp_code.proofs.ShapeLemmas.{at_most}
 
 -- ---- the shape at an index, clause by clause
 
@@ -44,7 +47,7 @@ all_at test (k ∷ ks) m e f =
 
 label_stands : (labels : List (ℕ × ℕ)) (label k : ℕ) → index_of_label labels label ≡ Some k → list_any (λ pair. nat_eq pair.1 k) labels ≡ true
 label_stands [] label k e = absurd (let v : ⊥ = cc in v)
-label_stands (p ∷ more) label k e = by_test (nat_eq p.0 label) e
+label_stands (p ∷ more) label k e = by_test (nat_eq p.0 label) e (label_stands more label k)
   where
     or_true : (b : Bool) → (b || true) ≡ true
     or_true true = refl
@@ -53,9 +56,10 @@ label_stands (p ∷ more) label k e = by_test (nat_eq p.0 label) e
     one : (m : ℕ) → Some m ≡ Some k → m ≡ k
     one m e = cc
 
-    by_test : (b : Bool) → (elim b as (λ is. Option ℕ) [ true ↦ Some p.1 | false ↦ index_of_label more label ]) ≡ Some k → (nat_eq p.1 k || list_any (λ pair. nat_eq pair.1 k) more) ≡ true
-    by_test true e = ap (λ b. b || list_any (λ pair. nat_eq pair.1 k) more) (eq-eqb p.1 k (one p.1 e))
-    by_test false e = ap (λ b. nat_eq p.1 k || b) (label_stands more label k e) ∙ or_true (nat_eq p.1 k)
+    by_test : (b : Bool) → (elim b as (λ is. Option ℕ) [ true ↦ Some p.1 | false ↦ index_of_label more label ]) ≡ Some k
+        → (index_of_label more label ≡ Some k → list_any (λ pair. nat_eq pair.1 k) more ≡ true) → (nat_eq p.1 k || list_any (λ pair. nat_eq pair.1 k) more) ≡ true
+    by_test true e rest = ap (λ b. b || list_any (λ pair. nat_eq pair.1 k) more) (eq-eqb p.1 k (one p.1 e))
+    by_test false e rest = ap (λ b. nat_eq p.1 k || b) (rest e) ∙ or_true (nat_eq p.1 k)
 
 -- ---- an index that is led to well
 
@@ -79,32 +83,41 @@ right_at code k d i e f g =
     ap (instruction_is_right code k (Some i)) (sym g) ∙ ap (λ o. instruction_is_right code k o (slice_get code.depths k)) (sym f)
     ∙ not_false (instruction_is_right code k (slice_get code.instructions k) (slice_get code.depths k)) e
 
+record RightParts (code : BlockCode) (k e : ℕ) (o : Operation) : Type 0 where
+  enough : takes o ≤ e
+  leads : list_all (leads_well code (e - takes o + puts o)) (successors k o) ≡ true
+  bare : is_bare o ≡ true → e ≡ 0
+  small : e ≤ OPERAND_LIMIT
+
+right_parts : (code : BlockCode) (k e : ℕ) (o : Operation) → is_right code k e o ≡ true → RightParts code k e o
+right_parts code k e o right =
+    by_halves (nat_le (takes o) e && list_all (leads_well code (e - takes o + puts o)) (successors k o)) ((not (is_bare o) || nat_eq e 0) && nat_le e OPERAND_LIMIT) refl refl right
+  where
+    bare_is : (b : Bool) → (not b || nat_eq e 0) ≡ true → b ≡ true → e ≡ 0
+    bare_is true h f = eqb-true e 0 h
+    bare_is false h f = absurd (let v : ⊥ = cc in v)
+
+    by_halves : (a b : Bool) → (nat_le (takes o) e && list_all (leads_well code (e - takes o + puts o)) (successors k o)) ≡ a
+        → ((not (is_bare o) || nat_eq e 0) && nat_le e OPERAND_LIMIT) ≡ b → (a && b) ≡ true → RightParts code k e o
+    by_halves false b p q h = absurd (let v : ⊥ = cc in v)
+    by_halves true false p q h = absurd (let v : ⊥ = cc in v)
+    by_halves true true p q h =
+        let first = and_parts (nat_le (takes o) e) (list_all (leads_well code (e - takes o + puts o)) (successors k o)) p in
+        let second = and_parts (not (is_bare o) || nat_eq e 0) (nat_le e OPERAND_LIMIT) q in
+        record { enough = at_most (takes o) e first.0; leads = first.1; bare = bare_is (is_bare o) second.0; small = at_most e OPERAND_LIMIT second.1 }
+
 serves : (code : BlockCode) (k d : ℕ) → IsShaped code → leads_well code d k ≡ true → (i : Instr) × IsServed code k d i
 serves code k d shaped e = with_instruction (found code.instructions k (inside code d k e))
   where
-    bare_is : (b : Bool) → (not b || nat_eq d 0) ≡ true → b ≡ true → d ≡ 0
-    bare_is true h f = eqb-true d 0 h
-    bare_is false h f = absurd (let v : ⊥ = cc in v)
-
     with_instruction : (i : Instr) × (slice_get code.instructions k ≡ Some i) → (i : Instr) × IsServed code k d i
     with_instruction s =
-        let i : Instr = s.0 in
-        let right : is_right code k d i.operation ≡ true = right_at code k d i ((keeps code k (shaped k)).instruction) s.1 (depth_at code d k e) in
-        let halves = and_parts _ _ right in
-        let takes_is : nat_le (takes i.operation) d ≡ true = (and_parts _ _ halves.0).0 in
-        let small_is = (and_parts _ _ halves.1).1 in
-        (i, record {
-          instruction = s.1;
-          depth = depth_at code d k e;
-          enough = grind (arith, takes_is);
-          bare = bare_is (is_bare i.operation) (and_parts _ _ halves.1).0;
-          small = grind (arith, small_is);
-        })
+        let parts = right_parts code k d s.0.operation (right_at code k d s.0 ((keeps code k (shaped k)).instruction) s.1 (depth_at code d k e)) in
+        (s.0, record { instruction = s.1; operands = depth_at code d k e; enough = parts.enough; bare = parts.bare; small = parts.small })
 
 leads : (code : BlockCode) (k d m : ℕ) (i : Instr) → IsShaped code → IsServed code k d i → is_one_of (successors k i.operation) m ≡ true → leads_well code (d - takes i.operation + puts i.operation) m ≡ true
 leads code k d m i shaped s e =
-    let right : is_right code k d i.operation ≡ true = right_at code k d i ((keeps code k (shaped k)).instruction) s.instruction s.depth in
-    all_at (leads_well code (d - takes i.operation + puts i.operation)) (successors k i.operation) m (and_parts _ _ (and_parts _ _ right).0).1 e
+    let parts = right_parts code k d i.operation (right_at code k d i ((keeps code k (shaped k)).instruction) s.instruction s.operands) in
+    all_at (leads_well code (d - takes i.operation + puts i.operation)) (successors k i.operation) m parts.leads e
 
 comes_well : (code : BlockCode) (k d : ℕ) → IsShaped code → Reached code k d → leads_well code d k ≡ true
 comes_well code _ _ shaped Begun = not_false (leads_well code 0 0) (keeps code 0 (shaped 0)).start

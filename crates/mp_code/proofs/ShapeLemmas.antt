@@ -6,10 +6,12 @@ use Rattle.std.proofs.lemmas.Bool.{and_parts, or_cases}
 use Rattle.std.proofs.lemmas.Option.{slice_get_past}
 use Rattle.mp_code.specs.BlockCode.{BlockCode}
 use Rattle.mp_code.specs.Shape.{IsShaped, IsFirstBad, FirstBadIsLeast, fails_at, is_wrong_start, is_wrong_length, is_wrong_label, is_wrong_instruction, instruction_is_right, leads_well, shorter, lesser_of, least_that, suspects, first_bad}
-use Rattle.mp_code.specs.ShapeExamples.{Shapes}
 
-pub shapes : Shapes
-shapes = refl
+pub at_most : (k m : ℕ) → nat_le k m ≡ true → k ≤ m
+at_most k m is = grind (arith, is)
+
+pub above : (k m : ℕ) → nat_le k m ≡ false → m < k
+above k m is = grind (arith, is)
 
 abbrev pub StandsIn : ℕ → List ℕ → Type 0
 StandsIn k [] = ⊥
@@ -105,7 +107,7 @@ right_past_the_end code k l = all_false (is_wrong_start code k) (is_wrong_length
 past_the_end : (code : BlockCode) (k : ℕ) → length code.instructions < k → fails_at code k ≡ true → StandsIn k (map (λ pair. pair.1) code.labels)
 past_the_end code k l e =
     by_parts (is_wrong_start code k) (is_wrong_length code k) (is_wrong_instruction code k) (right_past_the_end code k l) (is_wrong_label code k) e
-      (λ is. labelled code.labels k (and_parts (list_any (λ pair. nat_eq pair.1 k) code.labels) (not (leads_well code 0 k)) is).0)
+    (λ is. labelled code.labels k (and_parts (list_any (λ pair. nat_eq pair.1 k) code.labels) (not (leads_well code 0 k)) is).0)
   where
     by_parts : (a b d : Bool) → ((a || b) || d) ≡ false → (label : Bool) → ((a || b) || (label || d)) ≡ true → {A : Type 0} → (label ≡ true → A) → A
     by_parts true b d f label e g = absurd (let v : ⊥ = cc in v)

@@ -147,7 +147,6 @@ successors k o = next_index (goes_on o) k ++ targets o
 
 -- ---- the clauses, each a test that it fails at an index
 
-
 abbrev pub is_depth : ℕ → Option ℕ → Bool
 is_depth d None = false
 is_depth d (Some e) = nat_eq e d

@@ -85,8 +85,12 @@ impl Draft {
     fn is_wrong_instruction(&self, at: usize) -> bool
         ensures { result ≡ is_wrong_instruction (draft_code self.now) at }
     {
-        let Some(instruction) = self.instructions.get(at) else { return false };
-        let Some(depth) = self.depths.get(at) else { return false };
+        let Some(instruction) = self.instructions.get(at) else {
+            return false
+        };
+        let Some(depth) = self.depths.get(at) else {
+            return false
+        };
         !self.is_right(at, *depth, &instruction.operation)
     }
 
@@ -165,13 +169,7 @@ fn lesser(index: u32, other: Option<u32>) -> u32
     ensures { lesser_of index other ≡ Some result }
 {
     match other {
-        Some(other) => {
-            if index <= other {
-                index
-            } else {
-                other
-            }
-        }
+        Some(other) => { if index <= other { index } else { other } }
         None => index,
     }
 }
