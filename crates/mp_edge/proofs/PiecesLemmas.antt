@@ -82,19 +82,25 @@ answer_at (p ∷ ps) zero o zero h k = absurd (omega arith)
 answer_at (p ∷ ps) zero o (suc room) h k = refl
 answer_at (p ∷ ps) (suc at) o room h k = answer_at ps at o room (omega arith) k
 
-pub answer_given : (ps : List (List ℕ)) (at o n room : ℕ) {told : List (List ℕ)} {item : List ℕ} → at < length ps → 0 < room → after ps at o ≡ told → item ≡ get_or ps at [] → n ≡ min (length (drop o item)) room → got.Bytes n ≡ answer_of told room
+pub answer_given : (ps : List (List ℕ)) (at o n room : ℕ) {told : List (List ℕ)} {item : List ℕ} → at < length ps → 0 < room → after ps at o ≡ told →
+    item ≡ get_or ps at [] → n ≡ min (length (drop o item)) room → got.Bytes n ≡ answer_of told room
 answer_given ps at o n room lt some e r c =
     ap (λ k. got.Bytes k) (c ∙ ap (λ x. min (length (drop o x)) room) r) ∙ answer_at ps at o room lt some ∙ ap (λ t. answer_of t room) e
 
-pub taken_given : (ps : List (List ℕ)) (at o n at' o' : ℕ) (buf : List ℕ) {told item : List ℕ} → at < length ps → before ps at' o' ≡ before ps at (o + n) → before ps at o ≡ told → item ≡ get_or ps at [] → take n buf ≡ take n (drop o item) → before ps at' o' ≡ told ++ take n buf
+pub taken_given : (ps : List (List ℕ)) (at o n at' o' : ℕ) (buf : List ℕ) {told item : List ℕ} → at < length ps →
+    before ps at' o' ≡ before ps at (o + n) → before ps at o ≡ told → item ≡ get_or ps at [] → take n buf ≡ take n (drop o item) →
+    before ps at' o' ≡ told ++ take n buf
 taken_given ps at o n at' o' buf {told} lt moved e r c =
     moved ∙ before_on ps at o n lt ∙ ap (λ t. t ++ take n (drop o (get_or ps at []))) e ∙ ap (λ t. told ++ t) (sym (c ∙ ap (λ x. take n (drop o x)) r))
 
-pub left_given : (ps : List (List ℕ)) (at o n at' o' : ℕ) (buf : List ℕ) {told : List (List ℕ)} {item : List ℕ} → at < length ps → after ps at' o' ≡ past_empty (after ps at (o + n)) → after ps at o ≡ told → item ≡ get_or ps at [] → take n buf ≡ take n (drop o item) → joined told ≡ take n buf ++ joined (after ps at' o')
+pub left_given : (ps : List (List ℕ)) (at o n at' o' : ℕ) (buf : List ℕ) {told : List (List ℕ)} {item : List ℕ} → at < length ps →
+    after ps at' o' ≡ past_empty (after ps at (o + n)) → after ps at o ≡ told → item ≡ get_or ps at [] → take n buf ≡ take n (drop o item) →
+    joined told ≡ take n buf ++ joined (after ps at' o')
 left_given ps at o n at' o' buf lt moved e r c =
     let rest : joined (after ps at (o + n)) ≡ joined (after ps at' o') = sym (joined_past_empty (after ps at (o + n))) ∙ ap joined (sym moved) in
     let front : take n (drop o (get_or ps at [])) ≡ take n buf = sym (c ∙ ap (λ x. take n (drop o x)) r) in
     ap joined (sym e) ∙ joined_after ps at o n lt ∙ ap (λ t. t ++ joined (after ps at (o + n))) front ∙ ap (λ t. take n buf ++ t) rest
 
-pub pieces_given : (ps : List (List ℕ)) (at o n at' o' : ℕ) {told : List (List ℕ)} → after ps at' o' ≡ past_empty (after ps at (o + n)) → after ps at o ≡ told → after ps at' o' ≡ past_empty (without_front n told)
+pub pieces_given : (ps : List (List ℕ)) (at o n at' o' : ℕ) {told : List (List ℕ)} → after ps at' o' ≡ past_empty (after ps at (o + n)) →
+    after ps at o ≡ told → after ps at' o' ≡ past_empty (without_front n told)
 pieces_given ps at o n at' o' moved e = moved ∙ ap past_empty (after_on ps at o n ∙ ap (without_front n) e)

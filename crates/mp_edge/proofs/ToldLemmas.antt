@@ -19,9 +19,11 @@ grows_more None None (Some c) x y h k = absurd k
 grows_more None None None x y h k = tt
 
 -- a write took n bytes more, from a place on
-pub grows_part : (a b c : Option (List ℕ)) (bytes : List ℕ) (at n : ℕ) → Grows a b (take at bytes) → Grows b c (take n (take (length bytes - at) (drop at bytes))) → Grows a c (take (at + n) bytes)
+pub grows_part : (a b c : Option (List ℕ)) (bytes : List ℕ) (at n : ℕ) → Grows a b (take at bytes) →
+    Grows b c (take n (take (length bytes - at) (drop at bytes))) → Grows a c (take (at + n) bytes)
 grows_part a b c bytes at n h k =
-    let e : take at bytes ++ take n (take (length bytes - at) (drop at bytes)) ≡ take (at + n) bytes = ap (λ t. take at bytes ++ take n t) (take_rest bytes at) ∙ sym (take-add at n bytes) in
+    let e : take at bytes ++ take n (take (length bytes - at) (drop at bytes)) ≡ take (at + n) bytes =
+    ap (λ t. take at bytes ++ take n t) (take_rest bytes at) ∙ sym (take-add at n bytes) in
     rw e at (grows_more a b c (take at bytes) (take n (take (length bytes - at) (drop at bytes))) h k)
 
 pub part_within : (bytes : List ℕ) (at n : ℕ) → at ≤ length bytes → n ≤ length (take (length bytes - at) (drop at bytes)) → at + n ≤ length bytes

@@ -4,7 +4,8 @@ use Rattle.mp_script.specs.declared.access.AccessPart.{AccessPart}
 use Rattle.mp_script.specs.declared.access.AccessPart.TheVariants as part
 use Rattle.mp_script.specs.declared.access.Stage.{Stage}
 use Rattle.mp_script.specs.declared.access.Stage.TheVariants as stage
-use Rattle.mp_script.specs.Access.{Index, Number, Signed, Char, Name, Selector, Indexed, Field, Pointed, IsAccess, IsFormTested, after, completes, have_form, is_complete, parts_of_index, parts_of_more, parts_of_selectors}
+use Rattle.mp_script.specs.Access.{Index, Number, Signed, Char, Name, Selector, Indexed, Field, Pointed, IsAccess, IsFormTested, after, completes}
+use Rattle.mp_script.specs.Access.{have_form, is_complete, parts_of_index, parts_of_more, parts_of_selectors}
 
 -- what completes an access, by what may come next
 record AreSelectors (parts : List AccessPart) : Type 0 where
@@ -61,7 +62,11 @@ one_more stage.Selectors part.Char parts m = absurd m
 one_more stage.Selectors part.Sign parts m = absurd m
 one_more stage.Selectors part.Dot parts m = record { selectors = Field ∷ m.selectors; all = ap (λ t. part.Dot ∷ t) m.all }
 one_more stage.Selectors part.Caret parts m = record { selectors = Pointed ∷ m.selectors; all = ap (λ t. part.Caret ∷ t) m.all }
-one_more stage.Selectors part.Open parts m = record { selectors = Indexed m.index m.more ∷ m.selectors; all = ap (λ t. part.Open ∷ t) (m.all ∙ regrouped (parts_of_index m.index) (parts_of_more m.more) (parts_of_selectors m.selectors)) }
+one_more stage.Selectors part.Open parts m =
+    record {
+      selectors = Indexed m.index m.more ∷ m.selectors;
+      all = ap (λ t. part.Open ∷ t) (m.all ∙ regrouped (parts_of_index m.index) (parts_of_more m.more) (parts_of_selectors m.selectors));
+    }
 one_more stage.Selectors part.Comma parts m = absurd m
 one_more stage.Selectors part.Close parts m = absurd m
 one_more stage.Selectors part.Other parts m = absurd m
@@ -102,7 +107,13 @@ one_more stage.Close part.Sign parts m = absurd m
 one_more stage.Close part.Dot parts m = absurd m
 one_more stage.Close part.Caret parts m = absurd m
 one_more stage.Close part.Open parts m = absurd m
-one_more stage.Close part.Comma parts m = record { more = m.index ∷ m.more; selectors = m.selectors; all = ap (λ t. part.Comma ∷ t) (m.all ∙ sym (append_assoc (parts_of_index m.index) (parts_of_more m.more) (part.Close ∷ parts_of_selectors m.selectors))) }
+one_more stage.Close part.Comma parts m =
+    record {
+      more = m.index ∷ m.more;
+      selectors = m.selectors;
+      all = ap (λ t. part.Comma ∷ t)
+          (m.all ∙ sym (append_assoc (parts_of_index m.index) (parts_of_more m.more) (part.Close ∷ parts_of_selectors m.selectors)));
+    }
 one_more stage.Close part.Close parts m = record { more = []; selectors = m.selectors; all = ap (λ t. part.Close ∷ t) m.all }
 one_more stage.Close part.Other parts m = absurd m
 one_more stage.Wrong part.Name parts m = absurd m
@@ -141,7 +152,8 @@ index_read Name parts = refl
 more_read : (more : List Index) (parts : List AccessPart) → completes stage.Close (parts_of_more more ++ parts) ≡ completes stage.Close parts
 unfolding completes parts_of_more
 more_read [] parts = refl
-more_read (index ∷ more) parts = ap (completes stage.Index) (append_assoc (parts_of_index index) (parts_of_more more) parts) ∙ index_read index (parts_of_more more ++ parts) ∙ more_read more parts
+more_read (index ∷ more) parts = ap (completes stage.Index) (append_assoc (parts_of_index index) (parts_of_more more) parts)
+    ∙ index_read index (parts_of_more more ++ parts) ∙ more_read more parts
 
 selectors_read : (selectors : List Selector) → completes stage.Selectors (parts_of_selectors selectors) ≡ true
 unfolding completes parts_of_selectors
@@ -150,7 +162,8 @@ selectors_read (Field ∷ selectors) = selectors_read selectors
 selectors_read (Pointed ∷ selectors) = selectors_read selectors
 selectors_read (Indexed index more ∷ selectors) =
     let rest = parts_of_selectors selectors in
-    ap (completes stage.Index) (sym (regrouped (parts_of_index index) (parts_of_more more) rest)) ∙ index_read index (parts_of_more more ++ (part.Close ∷ rest)) ∙ more_read more (part.Close ∷ rest) ∙ selectors_read selectors
+    ap (completes stage.Index) (sym (regrouped (parts_of_index index) (parts_of_more more) rest))
+    ∙ index_read index (parts_of_more more ++ (part.Close ∷ rest)) ∙ more_read more (part.Close ∷ rest) ∙ selectors_read selectors
 
 access_read : (parts : List AccessPart) → IsAccess parts → have_form parts ≡ true
 unfolding completes

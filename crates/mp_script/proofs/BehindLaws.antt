@@ -1,6 +1,7 @@
 -- What stands behind the first word of a line: `behind_word` finds it, and, as each run of separators or of a word's
 -- bytes ends where it has to, whatever else fits is the same.
-use Rattle.std.proofs.Common.{◌≡◌, ◌<◌, ◌≤◌, ◌+◌, ◌-◌, ◌==◌, ℕ, zero, suc, List, [], ◌∷◌, ◌++◌, length, get_or, drop, take, true, false, not, Bool, ◌&&◌, IsTrue, refl, ap, sym, subst, ◌∙◌, arith, cond}
+use Rattle.std.proofs.Common.{◌≡◌, ◌<◌, ◌≤◌, ◌+◌, ◌-◌, ◌==◌, ℕ, zero, suc, List, [], ◌∷◌, ◌++◌, length, get_or, drop, take, true, false, not, Bool}
+use Rattle.std.proofs.Common.{◌&&◌, IsTrue, refl, ap, sym, subst, ◌∙◌, arith, cond}
 use Rattle.std.proofs.lemmas.List.{take-append-drop, length-take-le, get_or-take, append-nil}
 use Rattle.std.proofs.lemmas.Bool.{and_parts, cond-false, eqb-true}
 use Rattle.std.proofs.Math.Dec.{eqb-suc-zero}
@@ -80,7 +81,8 @@ content_ends (x ∷ xs) h = at (is_separator x) (content_len xs) refl (λ k. con
         let one : 1 + suc n - 1 ≡ suc (suc n - 1) = omega arith in
         subst (λ m. is_separator (get_or (x ∷ xs) m 0) ≡ false) (sym one) q
 
-    at : (v : Bool) (n : ℕ) → is_separator x ≡ v → (0 < n → is_separator (get_or xs (n - 1) 0) ≡ false) → 0 < cond (v && n == 0) 0 (1 + n) → is_separator (get_or (x ∷ xs) (cond (v && n == 0) 0 (1 + n) - 1) 0) ≡ false
+    at : (v : Bool) (n : ℕ) → is_separator x ≡ v → (0 < n → is_separator (get_or xs (n - 1) 0) ≡ false) → 0 < cond (v && n == 0) 0 (1 + n) →
+        is_separator (get_or (x ∷ xs) (cond (v && n == 0) 0 (1 + n) - 1) 0) ≡ false
     at true zero e ih k = absurd (omega arith)
     at true (suc n) e ih k =
         let none : cond (suc n == 0) 0 (1 + suc n) ≡ 1 + suc n = cond-false (suc n == 0) 0 (1 + suc n) (eqb-suc-zero n) in
@@ -98,7 +100,8 @@ trimmed xs h some =
     let fits = content_fits xs in
     let len = length-take-le n xs fits in
     let first : get_or (take n xs) 0 0 ≡ get_or xs 0 0 = get_or-take n xs 0 0 (omega (arith, len, some)) in
-    let last : get_or (take n xs) (length (take n xs) - 1) 0 ≡ get_or xs (n - 1) 0 = ap (λ k. get_or (take n xs) (k - 1) 0) len ∙ get_or-take n xs (n - 1) 0 (omega (arith, len, some)) in
+    let last : get_or (take n xs) (length (take n xs) - 1) 0 ≡ get_or xs (n - 1) 0 =
+    ap (λ k. get_or (take n xs) (k - 1) 0) len ∙ get_or-take n xs (n - 1) 0 (omega (arith, len, some)) in
     (ap is_separator first ∙ first_stays xs h (omega (arith, len, some, fits)), ap is_separator last ∙ content_ends xs (omega (arith, len, some)))
 
 -- a word begins where no separator stands, unless nothing is left
@@ -131,7 +134,8 @@ is_behind line =
       word = take (prefix_len is_word_byte one) one;
       between = between;
       after = after;
-      all = run_apart is_separator line ∙ ap (λ t. take (prefix_len is_separator line) line ++ t) (run_apart is_word_byte one ∙ ap (λ t. take (prefix_len is_word_byte one) one ++ t) of_two);
+      all = run_apart is_separator line ∙ ap (λ t. take (prefix_len is_separator line) line ++ t)
+          (run_apart is_word_byte one ∙ ap (λ t. take (prefix_len is_word_byte one) one ++ t) of_two);
       separators = (run_passes is_separator line, run_passes is_separator two, rest_separates three);
       letters = run_passes is_word_byte one;
       ends = subst (λ t. IsTrue (ends_word t)) of_two (word_stops two (run_stops is_word_byte one));

@@ -1,5 +1,6 @@
 -- Numbers have at most 9 digits, so commands want few lines.
-use Rattle.std.proofs.Common.{◌≡◌, ◌<◌, ◌≤◌, ◌+◌, ◌-◌, ◌*◌, ◌^◌, ℕ, zero, suc, List, [], ◌∷◌, length, get_or, take, map, None, Some, Bool, true, false, ◌&&◌, nat_le, IsTrue, cond, refl, ap, sym, ◌∙◌, arith, add-one}
+use Rattle.std.proofs.Common.{◌≡◌, ◌<◌, ◌≤◌, ◌+◌, ◌-◌, ◌*◌, ◌^◌, ℕ, zero, suc, List, [], ◌∷◌, length, get_or, take, map, None, Some, Bool, true}
+use Rattle.std.proofs.Common.{false, ◌&&◌, nat_le, IsTrue, cond, refl, ap, sym, ◌∙◌, arith, add-one}
 use Rattle.std.proofs.Math.Nat.{pow-le-pow_right}
 use native.Mathlib.Numerals.{unary_clauses}
 use Rattle.std.proofs.lemmas.List.{take_all}

@@ -21,7 +21,8 @@ separator_front b line (word ∷ words) s h = record {
 }
 
 -- a word that a separator ends, or none
-word_front : (word : List ℕ) (b : ℕ) (line : List ℕ) (words : List (List ℕ)) → is_separator b ≡ true → IsTrue (list_all is_word_byte word) → AreWords (b ∷ line) words → AreWords (word ++ b ∷ line) (word_of word ++ words)
+word_front : (word : List ℕ) (b : ℕ) (line : List ℕ) (words : List (List ℕ)) → is_separator b ≡ true → IsTrue (list_all is_word_byte word) →
+    AreWords (b ∷ line) words → AreWords (word ++ b ∷ line) (word_of word ++ words)
 unfolding AreWords
 word_front [] b line words s h k = k
 word_front (x ∷ word) b line words s h k = record { gap = []; rest = b ∷ line; all = refl; separators = refl; word = (omega arith, h); ends = s; more = k }
@@ -41,9 +42,13 @@ words_are : (bytes word : List ℕ) → IsTrue (list_all is_word_byte word) → 
 words_are [] word h = words_none word h
 words_are (b ∷ bytes) word h = at (is_separator b) refl (words_are bytes [] refl) (λ k. words_are bytes (word ++ b ∷ []) k)
   where
-    at : (v : Bool) → is_separator b ≡ v → AreWords bytes (words_from [] bytes) → (IsTrue (list_all is_word_byte (word ++ b ∷ [])) → AreWords ((word ++ b ∷ []) ++ bytes) (words_from (word ++ b ∷ []) bytes)) → AreWords (word ++ b ∷ bytes) (words_from word (b ∷ bytes))
-    at true s blank letter = subst (AreWords (word ++ b ∷ bytes)) (sym (from_separator word b bytes s)) (word_front word b bytes (words_from [] bytes) s h (separator_front b bytes (words_from [] bytes) s blank))
-    at false s blank letter = subst (AreWords (word ++ b ∷ bytes)) (sym (from_letter word b bytes s)) (subst (λ t. AreWords t (words_from (word ++ b ∷ []) bytes)) (append_assoc word (b ∷ []) bytes) (letter (letter_more word b s h)))
+    at : (v : Bool) → is_separator b ≡ v → AreWords bytes (words_from [] bytes) →
+        (IsTrue (list_all is_word_byte (word ++ b ∷ [])) → AreWords ((word ++ b ∷ []) ++ bytes) (words_from (word ++ b ∷ []) bytes)) →
+        AreWords (word ++ b ∷ bytes) (words_from word (b ∷ bytes))
+    at true s blank letter = subst (AreWords (word ++ b ∷ bytes)) (sym (from_separator word b bytes s))
+        (word_front word b bytes (words_from [] bytes) s h (separator_front b bytes (words_from [] bytes) s blank))
+    at false s blank letter = subst (AreWords (word ++ b ∷ bytes)) (sym (from_letter word b bytes s))
+        (subst (λ t. AreWords t (words_from (word ++ b ∷ []) bytes)) (append_assoc word (b ∷ []) bytes) (letter (letter_more word b s h)))
 
 gap_skipped : (gap bytes : List ℕ) → AreSeparators gap → words_from [] (gap ++ bytes) ≡ words_from [] bytes
 gap_skipped [] bytes h = refl

@@ -10,13 +10,17 @@ bytes-preserved c =
       | then-byte-eq10+in_ok-push w ↦ (
           let e = cut_take_end c.args.bytes.now c.bytes.byte-index lt w.if-byte-eq10.true c.bytes.invariant.parts in
           let r : c.if-byte-eq10.rest.items ≡ [] = cc (w.rest-is, w.replace-line.ensures.after, w.new.ensures.items) in
-          let ls : c.if-byte-eq10.lines.items ≡ c.bytes.lines.items ++ c.bytes.rest.items ∷ [] = cc (w.lines-is, w.in_ok-push.ensures.items, w.from_vec.ensures, w.replace-line.ensures.value) in
+          let ls : c.if-byte-eq10.lines.items ≡ c.bytes.lines.items ++ c.bytes.rest.items ∷ [] =
+          cc (w.lines-is, w.in_ok-push.ensures.items, w.from_vec.ensures, w.replace-line.ensures.value) in
           record { parts = same_cut (take (c.bytes.byte-index + 1) c.args.bytes.now) e ls r; line = rw r refl })
       | else-byte-eq10+in_ok-push-2 w ↦ (
           let e = cut_take_other c.args.bytes.now c.bytes.byte-index lt w.if-byte-eq10.false c.bytes.invariant.parts in
           let r = ap (λ v. v.items) w.rest-is ∙ w.in_ok-push-2.ensures.items in
           let ls = ap (λ v. v.items) w.lines-is in
-          record { parts = same_cut (take (c.bytes.byte-index + 1) c.args.bytes.now) e ls r; line = rw r (line_push c.bytes.rest.items _ w.if-byte-eq10.false c.bytes.invariant.line) })
+          record {
+            parts = same_cut (take (c.bytes.byte-index + 1) c.args.bytes.now) e ls r;
+            line = rw r (line_push c.bytes.rest.items _ w.if-byte-eq10.false c.bytes.invariant.line);
+          })
     ]
 
 pub bytes-init : goal.bytes-init

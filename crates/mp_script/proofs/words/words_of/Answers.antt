@@ -13,7 +13,8 @@ bytes-preserved c =
           let next : c.if-is_separator.words.items ≡ words ++ word_of last = cc (w.words-is, w.in_ok-end_word.ensures, w.replace-word.ensures.value) in
           let begun : c.if-is_separator.last.items ≡ [] = cc (w.last-is, w.replace-word.ensures.after, w.new.ensures.items) in
           words_separator c.args.line.now c.bytes.byte-index words _ last _ (omega arith) (sym c.is_separator.ensures ∙ w.if-is_separator.true) c.bytes.invariant next begun)
-      | else-is_separator+in_ok-push w ↦ words_letter c.args.line.now c.bytes.byte-index words _ last _ (omega arith) (sym c.is_separator.ensures ∙ w.if-is_separator.false) c.bytes.invariant (ap (λ v. v.items) w.words-is) (ap (λ v. v.items) w.last-is ∙ w.in_ok-push.ensures.items)
+      | else-is_separator+in_ok-push w ↦ words_letter c.args.line.now c.bytes.byte-index words _ last _ (omega arith) (sym c.is_separator.ensures
+          ∙ w.if-is_separator.false) c.bytes.invariant (ap (λ v. v.items) w.words-is) (ap (λ v. v.items) w.last-is ∙ w.in_ok-push.ensures.items)
     ]
 
 pub returns : goal.returns

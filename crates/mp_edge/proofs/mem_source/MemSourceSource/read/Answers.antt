@@ -31,21 +31,27 @@ returns-clause-answer c =
     let at = c.self.inside.at in
     let lt : at < length ps = omega arith in
     let room : 0 < length c.copy_front-count.new.buf = search rules in
-    λ _. answer_given ps at c.self.inside.offset c.copy_front-count.result _ lt room (ap (λ s. s.pieces) c.self.view_is) (c.get.ensures ∙ get_or_read ps at _ lt c.index.ensures []) (rw take_rest at c.copy_front-count.ensures.count)
+    λ _. answer_given ps at c.self.inside.offset c.copy_front-count.result _ lt room (ap (λ s. s.pieces) c.self.view_is)
+    (c.get.ensures ∙ get_or_read ps at _ lt c.index.ensures []) (rw take_rest at c.copy_front-count.ensures.count)
 
 pub returns-clause-taken : goal.returns-clause-taken
 returns-clause-taken c =
     let ps : List (List ℕ) = c.self.inside.pieces.items in
     let at = c.self.inside.at in
     let lt : at < length ps = omega arith in
-    taken_given ps at c.self.inside.offset c.copy_front-count.result _ _ c.copy_front-count.new.buf lt (rw c.deref-2.ensures.value at c.next_place-at.ensures.before) (ap (λ s. s.taken) c.self.view_is) (c.get.ensures ∙ get_or_read ps at _ lt c.index.ensures []) (rw take_rest at c.copy_front-count.ensures.copied)
+    taken_given ps at c.self.inside.offset c.copy_front-count.result _ _ c.copy_front-count.new.buf lt
+    (rw c.deref-2.ensures.value at c.next_place-at.ensures.before) (ap (λ s. s.taken) c.self.view_is)
+    (c.get.ensures ∙ get_or_read ps at _ lt c.index.ensures []) (rw take_rest at c.copy_front-count.ensures.copied)
 
 pub returns-clause-left : goal.returns-clause-left
 returns-clause-left c =
     let ps : List (List ℕ) = c.self.inside.pieces.items in
     let at = c.self.inside.at in
     let lt : at < length ps = omega arith in
-    left_given ps at c.self.inside.offset c.copy_front-count.result _ _ c.copy_front-count.new.buf lt (rw c.deref-2.ensures.value at c.next_place-at.ensures.after) (ap (λ s. s.pieces) c.self.view_is) (c.get.ensures ∙ get_or_read ps at _ lt c.index.ensures []) (rw take_rest at c.copy_front-count.ensures.copied)
+    left_given ps at c.self.inside.offset c.copy_front-count.result _ _ c.copy_front-count.new.buf lt
+    (rw c.deref-2.ensures.value at c.next_place-at.ensures.after) (ap (λ s. s.pieces) c.self.view_is)
+    (c.get.ensures ∙ get_or_read ps at _ lt c.index.ensures []) (rw take_rest at c.copy_front-count.ensures.copied)
 
 pub returns-clause-pieces : goal.returns-clause-pieces
-returns-clause-pieces c = pieces_given c.self.inside.pieces.items c.self.inside.at c.self.inside.offset c.copy_front-count.result _ _ (rw c.deref-2.ensures.value at c.next_place-at.ensures.after) (ap (λ s. s.pieces) c.self.view_is)
+returns-clause-pieces c = pieces_given c.self.inside.pieces.items c.self.inside.at c.self.inside.offset c.copy_front-count.result _ _
+    (rw c.deref-2.ensures.value at c.next_place-at.ensures.after) (ap (λ s. s.pieces) c.self.view_is)

@@ -21,8 +21,10 @@ returns-then-at-piece-clause-rest c =
 
 pub returns-clause-lines : goal.returns-clause-lines
 returns-clause-lines c =
-    let e : get_or c.args.piece.now c.bytes.at 0 ≡ 10 = elim c.bytes-test.branch [ then-bytes-test+else-piece-at-ne10 w ↦ w.if-piece-at-ne10.false | else-bytes-test w ↦ absurd (omega arith) ] in
-    let f = cut_first_end c.self.inside.rest.items c.args.piece.now c.bytes.at c.self.invariant c.bytes.invariant.line (omega arith) e (rw take_rest at c.in_ok-lines.ensures.cut) in
+    let e : get_or c.args.piece.now c.bytes.at 0 ≡ 10 =
+    elim c.bytes-test.branch [ then-bytes-test+else-piece-at-ne10 w ↦ w.if-piece-at-ne10.false | else-bytes-test w ↦ absurd (omega arith) ] in
+    let f = cut_first_end c.self.inside.rest.items c.args.piece.now c.bytes.at c.self.invariant c.bytes.invariant.line (omega arith) e
+    (rw take_rest at c.in_ok-lines.ensures.cut) in
     let i = rw c.unwrap-2.ensures at c.insert.ensures.items in
     let x = rw c.unwrap.ensures at c.extend_from_slice-2.ensures.items in
     let g = sym (ap (λ (x : Cut). x.whole) (ap (λ t. cut (t ++ c.args.piece.now)) (sym c.self.view_is) ∙ f)) in
@@ -31,6 +33,8 @@ returns-clause-lines c =
 
 pub returns-clause-rest : goal.returns-clause-rest
 returns-clause-rest c =
-    let e : get_or c.args.piece.now c.bytes.at 0 ≡ 10 = elim c.bytes-test.branch [ then-bytes-test+else-piece-at-ne10 w ↦ w.if-piece-at-ne10.false | else-bytes-test w ↦ absurd (omega arith) ] in
-    let f = cut_first_end c.self.inside.rest.items c.args.piece.now c.bytes.at c.self.invariant c.bytes.invariant.line (omega arith) e (rw take_rest at c.in_ok-lines.ensures.cut) in
+    let e : get_or c.args.piece.now c.bytes.at 0 ≡ 10 =
+    elim c.bytes-test.branch [ then-bytes-test+else-piece-at-ne10 w ↦ w.if-piece-at-ne10.false | else-bytes-test w ↦ absurd (omega arith) ] in
+    let f = cut_first_end c.self.inside.rest.items c.args.piece.now c.bytes.at c.self.invariant c.bytes.invariant.line (omega arith) e
+    (rw take_rest at c.in_ok-lines.ensures.cut) in
     ap (λ v. v.items) c.replace-first.ensures.after ∙ sym (ap (λ (x : Cut). x.rest) (ap (λ t. cut (t ++ c.args.piece.now)) (sym c.self.view_is) ∙ f))
