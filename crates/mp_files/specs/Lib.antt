@@ -1,0 +1,5 @@
+pub mod Items
+pub mod TextFiles
+pub mod WrittenFields
+pub mod RunFiles
+pub mod Examples
