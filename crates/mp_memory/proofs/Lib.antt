@@ -1,2 +1,3 @@
 mod MemberLists
 mod Lanes
+pub mod LaidLemmas

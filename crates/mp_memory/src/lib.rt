@@ -5,6 +5,9 @@ mod bits;
 mod cells;
 pub mod laws;
 mod member_set;
+mod region;
+mod store;
 
 pub use cells::Cell;
 pub use member_set::MemberSet;
+pub use store::Store;

@@ -79,4 +79,11 @@ impl MemberSet {
     {
         self.bits.within(&other.bits)
     }
+
+    /// The same set.
+    pub fn copy(&self) -> MemberSet
+        ensures { result ≡ self.now }
+    {
+        MemberSet { bits: self.bits }
+    }
 }
