@@ -82,7 +82,8 @@ impl MemberSet {
 
     /// The same set.
     pub fn copy(&self) -> MemberSet
-        ensures { result ≡ self.now }
+        ensures same { result ≡ self.now }
+        ensures set { IsSet result }
     {
         MemberSet { bits: self.bits }
     }
