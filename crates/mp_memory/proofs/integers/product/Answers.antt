@@ -12,7 +12,7 @@ returns c =
     c.integer.ensures
     ∙ ap as_integer (
         ap₂ (λ a b. to_z w128 (of_z w128 (a *ℤ b)))
-          (ap (λ a. to_z w128 (of_z w128 a)) (to_z-of_z c.ranges.i) ∙ to_z-of_z (sfits_widen tt c.ranges.i))
-          (ap (λ a. to_z w128 (of_z w128 a)) (to_z-of_z c.ranges.j) ∙ to_z-of_z (sfits_widen tt c.ranges.j))
+          (ap (λ a. to_z w128 (of_z w128 a)) (to_z-of_z c.ranges.i) ∙ to_z-of_z {w = w128} (sfits_widen (tt {0}) c.ranges.i))
+          (ap (λ a. to_z w128 (of_z w128 a)) (to_z-of_z c.ranges.j) ∙ to_z-of_z {w = w128} (sfits_widen (tt {0}) c.ranges.j))
         ∙ to_z-of_z {z = c.args.i *ℤ c.args.j}
             (fits_signed_mul w128 c.args.i c.args.j (2 ^ 63) (2 ^ 63) (nat_abs-le c.args.i c.ranges.i.sfits) (nat_abs-le c.args.j c.ranges.j.sfits) (omega arith)))
