@@ -6,7 +6,8 @@ use Rattle.std.proofs.lemmas.Bool.{eqb-true, eq-eqb, ne_eqb, ltb-true, ltb-false
 use Rattle.std.proofs.lemmas.Nat.Bits.{bit_at_and, bit_at_or, bit_at_not, bit_at-lt, bit_at_set_same, bit_at_set_other, same_from_bits_below, shr_and_one, bit_at-zero}
 use Rattle.std.proofs.lemmas.Nat.{or_lt}
 use Rattle.mp_memory.specs.declared.bits.Bits.{Bits}
-use Rattle.mp_memory.specs.Members.{numbers, bit, holds, members, is_member, with_member, joined, common, without, are_in, Covers, IncludedSetsAreEqual}
+use Rattle.mp_memory.specs.Sets.{numbers}
+use Rattle.mp_memory.specs.Members.{bit, holds, members, is_member, with_member, joined, common, without, are_in, Covers}
 use Rattle.mp_memory.proofs.MemberLists.{member_filter, filter_same, are_in_filter, in_filter}
 
 -- one bit
@@ -282,12 +283,3 @@ in_third s m g h = let a = own_lanes s in a.third (m - 128) (omega arith) ∙ ap
 
 pub in_fourth : (s : Bits) (m : ℕ) → 192 ≤ m → m < 256 → bit s.fourth (m - 192) ≡ is_member (members s) m
 in_fourth s m g h = let a = own_lanes s in a.fourth (m - 192) (omega arith) ∙ ap (holds s) (let e : 192 + (m - 192) ≡ m = omega arith in e) ∙ sym (is_member_is s m h)
-
--- two sets that are in one another are one
-pub inclusion_is_equality : IncludedSetsAreEqual
-inclusion_is_equality s t e f = filter_same (holds s) (holds t) 256 (λ m h. go (holds s m) (holds t m) (inside_of s t e m h) (inside_of t s f m h))
-  where
-    go : (x y : Bool) → (x ≡ true → y ≡ true) → (y ≡ true → x ≡ true) → x ≡ y
-    go true y a b = sym (a refl)
-    go false true a b = b refl
-    go false false a b = refl

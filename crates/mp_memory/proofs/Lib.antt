@@ -1,2 +1,4 @@
 mod MemberLists
 mod Lanes
+pub mod LaidLemmas
+pub mod SetLemmas

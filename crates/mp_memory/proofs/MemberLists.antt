@@ -2,7 +2,8 @@
 use Rattle.std.proofs.Common.{◌≡◌, ◌≢◌, ℕ, zero, suc, ◌<◌, ◌≤◌, List, [], ◌∷◌, ◌++◌, filter, cond, Bool, true, false, ◌&&◌, ◌||◌, refl, sym, ap, ap₂, ◌∙◌, arith}
 use Rattle.std.specs.Prelude.{nat_eq, nat_lt, if◌then◌else◌}
 use Rattle.std.proofs.lemmas.Bool.{eqb-true, eq-eqb, ne_eqb, ltb-true, ltb-false, lt-ltb, le-ltb}
-use Rattle.mp_memory.specs.Members.{numbers, is_member, are_in}
+use Rattle.mp_memory.specs.Sets.{numbers}
+use Rattle.mp_memory.specs.Members.{is_member, are_in}
 
 filter_both : (f : ℕ → Bool) (xs ys : List ℕ) → filter f (xs ++ ys) ≡ filter f xs ++ filter f ys
 filter_both f [] ys = refl
@@ -20,11 +21,11 @@ member_both (x ∷ xs) ys m = go (nat_eq x m) (member_both xs ys m)
     go true e = refl
     go false e = e
 
-numbers_more : (n : ℕ) → numbers (suc n) ≡ numbers n ++ n ∷ []
+pub numbers_more : (n : ℕ) → numbers (suc n) ≡ numbers n ++ n ∷ []
 unfolding numbers
 numbers_more n = refl
 
-numbers_none : numbers 0 ≡ []
+pub numbers_none : numbers 0 ≡ []
 unfolding numbers
 numbers_none = refl
 

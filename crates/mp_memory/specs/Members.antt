@@ -1,12 +1,8 @@
--- Sets as lists of their members, which ascend.
+-- Means of the sets on lanes, in the form in which they are proved; no statement of the crate's users cites this.
 use Rattle.std.specs.Prelude.{◌≡◌, ℕ, zero, suc, ◌-◌, ◌<◌, List, [], ◌∷◌, ◌++◌, filter, Bool, true, false, ◌&&◌, ◌||◌, not, nat_eq, nat_lt, if◌then◌else◌}
 use Rattle.std.specs.Int.{bit_at}
 use Rattle.mp_memory.specs.declared.bits.Bits.{Bits}
-
--- 0, 1, 2 and so on, n of them
-unfoldable pub numbers : ℕ → List ℕ
-numbers zero = []
-numbers (suc n) = numbers n ++ n ∷ []
+use Rattle.mp_memory.specs.Sets.{numbers}
 
 abbrev pub bit : ℕ → ℕ → Bool
 bit lane i = nat_eq (bit_at lane i) 1
@@ -45,7 +41,3 @@ are_in (x ∷ xs) ys = if is_member ys x then are_in xs ys else false
 -- each bit of the second lane is one of the first
 abbrev pub Covers : ℕ → ℕ → Type 0
 Covers lane other = (i : ℕ) → i < 64 → bit other i ≡ true → bit lane i ≡ true
-
--- so inclusion both ways decides equality
-abbrev pub IncludedSetsAreEqual : Type 0
-IncludedSetsAreEqual = (s t : Bits) → are_in (members s) (members t) ≡ true → are_in (members t) (members s) ≡ true → members s ≡ members t

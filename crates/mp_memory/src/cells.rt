@@ -1,3 +1,5 @@
+ghost use Rattle.std.specs.Prelude.{◌≡◌};
+
 use crate::member_set::MemberSet;
 
 /// A cell of the machine: what a variable, a reference, a procedural value or a file stands for.
@@ -18,4 +20,27 @@ pub enum Cell {
     Ref { root: u64, offset: u32 },
     /// A file's number.
     FileNo(u64),
+}
+
+impl Cell {
+    /// The same cell.
+    pub fn copy(&self) -> Cell
+        ensures { result ≡ self.now }
+    {
+        match self {
+            Cell::Undef => Cell::Undef,
+            Cell::Int(number) => Cell::Int(*number),
+            Cell::Members(set) => Cell::Members(set.copy()),
+            Cell::Ptr(object) => Cell::Ptr(*object),
+            Cell::Code { block, act } => Cell::Code {
+                block: *block,
+                act: *act,
+            },
+            Cell::Ref { root, offset } => Cell::Ref {
+                root: *root,
+                offset: *offset,
+            },
+            Cell::FileNo(file) => Cell::FileNo(*file),
+        }
+    }
 }

@@ -1,7 +1,13 @@
 // Laws of the definitions of this crate: each function's contract is one.
-ghost use Rattle.mp_memory.specs.Members.{IncludedSetsAreEqual};
+ghost use Rattle.mp_memory.specs.Sets.{NumbersAreARange, SetsAreByMembersLaw};
 
-/// Two sets that are in one another have the same members.
-pub fn inclusion_both_ways()
-    ensures { IncludedSetsAreEqual }
+/// The numbers below 256 are those of std's range.
+pub fn numbers_are_a_range()
+    ensures { NumbersAreARange }
+{}
+
+/// What each operation makes of two sets is the set of the members that one expects; inclusion says that each member is
+/// one of the other, and both ways that the sets are equal.
+pub fn sets_are_by_members()
+    ensures { SetsAreByMembersLaw }
 {}

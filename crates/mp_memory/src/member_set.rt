@@ -1,5 +1,5 @@
 ghost use Rattle.std.specs.Prelude.{◌≡◌, []};
-ghost use Rattle.mp_memory.specs.Members.{are_in, common, is_member, joined, with_member, without};
+ghost use Rattle.mp_memory.specs.Sets.{IsSet, difference, intersection, is_included, is_member, union, with_member};
 
 use crate::bits::Bits;
 use std::marker::Model;
@@ -41,14 +41,14 @@ impl MemberSet {
 
     /// Whether the number is a member.
     pub fn has(&self, member: u8) -> bool
-        ensures { result ≡ is_member self.now member }
+        ensures { result ≡ is_member member self.now }
     {
         self.bits.has(member)
     }
 
     /// What is in one or the other.
     pub fn union(&self, other: &MemberSet) -> MemberSet
-        ensures { result ≡ joined self.now other.now }
+        ensures { result ≡ union self.now other.now }
     {
         MemberSet {
             bits: self.bits.union(&other.bits),
@@ -57,7 +57,7 @@ impl MemberSet {
 
     /// What is in both.
     pub fn meet(&self, other: &MemberSet) -> MemberSet
-        ensures { result ≡ common self.now other.now }
+        ensures { result ≡ intersection self.now other.now }
     {
         MemberSet {
             bits: self.bits.meet(&other.bits),
@@ -66,7 +66,7 @@ impl MemberSet {
 
     /// What is in this set alone.
     pub fn less(&self, other: &MemberSet) -> MemberSet
-        ensures { result ≡ without self.now other.now }
+        ensures { result ≡ difference self.now other.now }
     {
         MemberSet {
             bits: self.bits.less(&other.bits),
@@ -75,8 +75,16 @@ impl MemberSet {
 
     /// Whether each member is in the other set.
     pub fn within(&self, other: &MemberSet) -> bool
-        ensures { result ≡ are_in self.now other.now }
+        ensures { result ≡ is_included self.now other.now }
     {
         self.bits.within(&other.bits)
+    }
+
+    /// The same set.
+    pub fn copy(&self) -> MemberSet
+        ensures same { result ≡ self.now }
+        ensures set { IsSet result }
+    {
+        MemberSet { bits: self.bits }
     }
 }
