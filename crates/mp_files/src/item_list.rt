@@ -1,6 +1,6 @@
-ghost use Rattle.std.specs.Prelude.{◌≡◌, ◌+◌, ◌*◌, ◌≤◌, ◌++◌, [], IfOk, OnOk, OnErr, length, slice_get, vec_capacity, ℕ};
+ghost use Rattle.std.specs.Prelude.{◌≡◌, ◌+◌, ◌*◌, ◌≤◌, ◌<◌, ◌^◌, ◌++◌, [], IfOk, IfSome, OnOk, OnErr, length, slice_get, vec_capacity, ℕ};
 ghost use Rattle.mp_files.specs.Items.{bytes_of, characters, items_of};
-ghost use Rattle.mp_files.specs.Stored.{is_marked};
+ghost use Rattle.mp_files.specs.Stored.{AreMarked, is_marked, marked_item};
 
 use crate::items::Item;
 use crate::marks::{is_marked, mark_range};
@@ -27,6 +27,17 @@ impl Model for ItemList {
     ghost view = { λ list. items_kept list.marks.items 0 list.bytes.items };
 
     ghost invariant = { λ list. NoneMarked list.marks.items (length list.bytes.items) };
+}
+
+// The item of a byte.
+fn marked_item(byte: u8, marked: bool) -> Item
+    ensures { result ≡ marked_item byte marked }
+{
+    if byte == b'\n' && !marked {
+        Item::LineEnd
+    } else {
+        Item::Character(byte)
+    }
 }
 
 // Makes room for so many bytes more. The room grows by a small part of what is there, so that a long file costs little
@@ -58,6 +69,22 @@ fn make_lanes(marks: &mut Vec<u8>, places: usize) -> Result<(), Memory>
     Ok(())
 }
 
+// Marks the characters with the number 10 among those that are put at a place and behind it; where there are none, it
+// makes no lanes.
+fn mark_characters(marks: &mut Vec<u8>, from: usize, bytes: &[u8]) -> Result<(), Memory>
+    requires { from + length bytes.now < 2 ^ 64 }
+    ensures ok { OnOk result (AreMarked marks.old.items marks.new.items from bytes.now) }
+    ensures err { OnErr result ((at : ℕ) → is_marked marks.new.items at ≡ is_marked marks.old.items at) }
+{
+    if !bytes.contains(&b'\n') {
+        return Ok(());
+    }
+    let to = from + bytes.len();
+    make_lanes(marks, to)?;
+    mark_range(marks, from, to);
+    Ok(())
+}
+
 impl ItemList {
     pub(crate) fn new(alloc: Global) -> ItemList
         ensures { result ≡ [] }
@@ -85,13 +112,13 @@ impl ItemList {
     }
 
     pub(crate) fn get(&self, at: usize) -> Option<Item>
-        ensures { result ≡ slice_get self.now at }
+        ensures item { result ≡ slice_get self.now at }
+        ensures next { IfSome result (λ item. at + 1 < 2 ^ 64) }
     {
-        let byte = *self.bytes.get(at)?;
-        if byte == b'\n' && !is_marked(&self.marks, at) {
-            Some(Item::LineEnd)
+        if at < self.bytes.len() {
+            Some(marked_item(self.bytes[at], is_marked(&self.marks, at)))
         } else {
-            Some(Item::Character(byte))
+            None
         }
     }
 
@@ -124,13 +151,8 @@ impl ItemList {
         ensures ok { OnOk result (self.new ≡ self.old ++ characters bytes.now) }
         ensures err { OnErr result (self.new ≡ self.old) }
     {
-        let old = self.bytes.len();
         make_room(&mut self.bytes, bytes.len())?;
-        if bytes.contains(&b'\n') {
-            let end = old + bytes.len();
-            make_lanes(&mut self.marks, end)?;
-            mark_range(&mut self.marks, old, end);
-        }
+        mark_characters(&mut self.marks, self.bytes.len(), bytes)?;
         self.bytes.extend_from_slice(bytes).unwrap();
         Ok(())
     }

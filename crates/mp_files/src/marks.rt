@@ -22,7 +22,8 @@ fn mark(marks: &mut [u8], at: usize)
 
 // Marks the places from one on up to another, for which there are lanes.
 pub(crate) fn mark_range(marks: &mut [u8], from: usize, to: usize)
-    requires { to ≤ 8 * length marks.old }
+    requires order { from ≤ to }
+    requires lanes { to ≤ 8 * length marks.old }
     ensures { (k : ℕ) → is_marked marks.new k ≡ (nat_le from k && nat_lt k to || is_marked marks.old k) }
 {
     'places: for at in from..to {

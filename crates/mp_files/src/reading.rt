@@ -1,5 +1,5 @@
 // Where reading goes on from a place of a list of items.
-ghost use Rattle.std.specs.Prelude.{◌≡◌, ◌+◌, ◌-◌, drop, take, min};
+ghost use Rattle.std.specs.Prelude.{◌≡◌, ◌+◌, ◌-◌, ◌≤◌, drop, take, min};
 ghost use Rattle.std.specs.List.{prefix_len};
 ghost use Rattle.mp_base.specs.declared.limits.TheConstants.{MAXINT};
 ghost use Rattle.mp_files.specs.Stored.{is_of};
@@ -35,6 +35,7 @@ pub(crate) fn sign_end(items: &ItemList, at: usize) -> usize
 
 // The value of the digits between two places, or one more than the greatest integer where it is larger.
 pub(crate) fn value_between(items: &ItemList, from: usize, to: usize) -> u64
+    requires { from ≤ to }
     ensures { result ≡ min (value_of (take (to - from) (drop from items.now))) (MAXINT + 1) }
 {
     let mut value: u64 = 0;

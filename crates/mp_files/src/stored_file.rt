@@ -1,7 +1,8 @@
-ghost use Rattle.std.specs.Prelude.{◌≡◌, ◌++◌, IfOk, IfErr, OnOk, OnErr, Some, IsTrue};
+ghost use Rattle.std.specs.Prelude.{◌≡◌, ◌++◌, IfOk, IfErr, OnOk, OnErr, Some, IsTrue, slice_get};
 ghost use Rattle.mp_files.specs.Items.{bytes_of, characters, items_of};
 ghost use Rattle.mp_files.specs.TextFiles.{Gives, closed_file, contents, eof, eoln, get, input_file, is_unfinished, is_writing, output_file, page_items, read_line, read_number, reset, rewrite, shown, with_written};
 ghost use Rattle.mp_files.specs.RunFiles.{fault_of};
+ghost use Rattle.mp_files.specs.Stored.{file_kept, item_refusal};
 
 use crate::causes::{END_OF_FILE, FileEnd, INTEGER_OVERFLOW, NO_NUMBER, WRONG_STATE};
 use crate::item_list::ItemList;
@@ -34,6 +35,21 @@ impl Model for StoredFile {
     ghost use Rattle.mp_files.specs.Stored.{file_kept};
 
     ghost view = { λ file. file_kept file.items file.place };
+}
+
+// The place of the next item of a file in reading, and the item.
+fn next_item(items: &ItemList, place: Place) -> Result<(usize, Item), FileEnd>
+    ensures reading { IfOk result (λ next. place ≡ Place.Reading next.0) }
+    ensures item { IfOk result (λ next. slice_get items.now next.0 ≡ Some next.1) }
+    ensures refused { IfErr result (λ e. item_refusal (file_kept items.now place) ≡ Some e) }
+{
+    let Place::Reading(at) = place else {
+        return Err(FileEnd::Fault(WRONG_STATE));
+    };
+    match items.get(at) {
+        Some(item) => Ok((at, item)),
+        None => Err(FileEnd::Fault(END_OF_FILE)),
+    }
 }
 
 impl StoredFile {
@@ -74,17 +90,6 @@ impl StoredFile {
         self.items.bytes()
     }
 
-    // The place of the next item of a file in reading, and the item.
-    fn next(&self) -> Result<(usize, Item), FileEnd> {
-        let Place::Reading(at) = self.place else {
-            return Err(FileEnd::Fault(WRONG_STATE));
-        };
-        match self.items.get(at) {
-            Some(item) => Ok((at, item)),
-            None => Err(FileEnd::Fault(END_OF_FILE)),
-        }
-    }
-
     pub(crate) fn eof(&self) -> Result<bool, FileEnd>
         ensures value { IfOk result (λ ends. eof self.now ≡ Gives ends self.now) }
         ensures fault { IfErr result (λ e. fault_of (eof self.now) ≡ Some e) }
@@ -100,7 +105,7 @@ impl StoredFile {
         ensures value { IfOk result (λ ends. eoln self.now ≡ Gives ends self.now) }
         ensures fault { IfErr result (λ e. fault_of (eoln self.now) ≡ Some e) }
     {
-        match self.next() {
+        match next_item(&self.items, self.place) {
             Ok((_, item)) => Ok(item.is_line_end()),
             Err(e) => Err(e),
         }
@@ -124,7 +129,7 @@ impl StoredFile {
         ensures fault { IfErr result (λ e. fault_of (get self.old) ≡ Some e) }
         ensures unchanged { OnErr result (self.new ≡ self.old) }
     {
-        match self.next() {
+        match next_item(&self.items, self.place) {
             Ok((at, _)) => {
                 self.place = Place::Reading(at + 1);
                 Ok(())
@@ -138,7 +143,7 @@ impl StoredFile {
         ensures fault { IfErr result (λ e. fault_of (read_line self.old) ≡ Some e) }
         ensures unchanged { OnErr result (self.new ≡ self.old) }
     {
-        match self.next() {
+        match next_item(&self.items, self.place) {
             Ok((at, _)) => {
                 let end = end_of(&self.items, ItemClass::Character, at);
                 self.place = Place::Reading(if end < self.items.len() { end + 1 } else { end });
