@@ -1,0 +1,4 @@
+pub mod MarkLemmas
+pub mod ItemLemmas
+pub mod ReadingLemmas
+pub mod FileLemmas
