@@ -13,6 +13,7 @@ mod numbers;
 mod path;
 mod place;
 mod position;
+mod reader;
 mod steps;
 mod text;
 
@@ -28,5 +29,6 @@ pub use numbers::{ClaimNo, EventNo, JobNo, Version};
 pub use path::{Path, PathStep};
 pub use place::{At, Place};
 pub use position::Positions;
+pub use reader::Reader;
 pub use steps::{Counting, Steps};
 pub use text::{TextLine, TextLines, end_last_line};

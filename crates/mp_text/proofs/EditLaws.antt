@@ -1,12 +1,14 @@
 -- What edits do, by numbers: a list of three parts is read part by part, and a list is what its numbered items are.
-use Rattle.std.proofs.Common.{◌≡◌, ◌↔◌, ◌≤◌, ◌<◌, ◌+◌, ◌-◌, ◌&&◌, ℕ, zero, suc, List, [], ◌∷◌, ◌++◌, length, get_or, take, drop, Bool, true, false, nat_le, Option, None, Some, refl, ap, sym, subst, ◌∙◌, arith, ⊎_elim}
-use Rattle.std.proofs.lemmas.List.{length-append, length-take-le, length-drop, get_or_append_left, get_or-append_right, get_or-take, get_or-drop, ext_get_or, take-append-drop, drop-drop}
+use Rattle.std.proofs.Common.{◌≡◌, ◌↔◌, ◌≤◌, ◌<◌, ◌+◌, ◌-◌, ◌&&◌, ℕ, zero, suc, List, [], ◌∷◌, ◌++◌, length, get_or, take, drop, Bool, true}
+use Rattle.std.proofs.Common.{false, nat_le, None, Some, refl, ap, sym, subst, ◌∙◌, arith, ⊎_elim}
+use Rattle.std.proofs.lemmas.List.{length-append, length-take-le, length-drop, get_or_append_left, get_or-append_right, get_or-take}
+use Rattle.std.proofs.lemmas.List.{get_or-drop, ext_get_or, take-append-drop, drop-drop}
 use Rattle.std.proofs.Math.Seq.{drop-cons}
 use Rattle.std.proofs.lemmas.Bool.{and_parts, le-leb, leb-true, cases_lt}
 use Rattle.mp_base.specs.Text.{bytes_of}
 use Rattle.mp_base.proofs.Cuts.{bytes_of-append}
 use Rattle.mp_text.specs.Edits.{IsInRange, edited, line_at, substituted}
-use Rattle.mp_text.specs.Meant.{ArePut, HasItsSize, IsMade, IsRangeTested, MakesOneText, item_at, lines_from, size}
+use Rattle.mp_text.specs.Meant.{ArePut, HasItsSize, IsMade, IsRangeTested, MakesOneText, lines_from, size}
 use Rattle.mp_text.specs.Refusals.{first_of, out_of_range, unless}
 use Rattle.mp_text.specs.declared.edits.Edit.{Edit}
 use Rattle.mp_text.specs.declared.edits.Edit.TheVariants as edit
@@ -86,7 +88,8 @@ made_of_parts none first last keep from items list k f low high =
     let rest : length behind ≡ length list - from = length-drop from list in
     record {
       count = omega (arith, length-append front (items ++ behind), length-append items behind, len, rest, k, f, low, high);
-      before = λ n one lt. get_or_append_left front (items ++ behind) none (n - 1) (omega (arith, len, k, one, lt)) ∙ get_or-take keep list (n - 1) none (omega (arith, k, one, lt));
+      before = λ n one lt. get_or_append_left front (items ++ behind) none (n - 1) (omega (arith, len, k, one, lt))
+          ∙ get_or-take keep list (n - 1) none (omega (arith, k, one, lt));
       new = λ n one le.
           let at : first - 1 + n - 1 - keep ≡ n - 1 = omega (arith, k, one) in
           get_or-append_right front (items ++ behind) keep (first - 1 + n - 1) none len (omega (arith, k, one))
@@ -176,7 +179,8 @@ made_sub line column count bytes text h =
     let made = take (line - 1) text ++ (new ∷ [] ++ drop line text) in
     let put = made_replaced line line (new ∷ []) text (sub_ranges line text h.0 h.1) in
     let is = sub_line line new text made h.0 put in
-    (subst (ArePut 0 column (column + count - 1) bytes (line_at text line)) (sym is) (made_bytes column count bytes (line_at text line) h.2 h.3), subst (λ l. ArePut [] line line (l ∷ []) text made) (sym is) put)
+    (subst (ArePut 0 column (column + count - 1) bytes (line_at text line)) (sym is) (made_bytes column count bytes (line_at text line) h.2 h.3),
+        subst (λ l. ArePut [] line line (l ∷ []) text made) (sym is) put)
 
 only_sub : (line column count : ℕ) (bytes : List ℕ) (text : List (List ℕ)) → IsInRange (edit.Sub line column count bytes) text
     → (other : List (List ℕ)) → IsMade (edit.Sub line column count bytes) text other → other ≡ edited (edit.Sub line column count bytes) text
@@ -186,7 +190,8 @@ only_sub line column count bytes text h other k =
     let new = substituted column count bytes old in
     let low : 1 ≤ column = h.2 in
     let high : column + count ≤ length old + 1 = h.3 in
-    let is = one_made 0 column (column + count - 1) bytes old (line_at other line) new k.0 (made_bytes column count bytes old low high) low (omega (arith, low)) (omega (arith, low, high)) in
+    let is = one_made 0 column (column + count - 1) bytes old (line_at other line) new k.0 (made_bytes column count bytes old low high) low
+        (omega (arith, low)) (omega (arith, low, high)) in
     let put = subst (λ l. ArePut [] line line (l ∷ []) text other) is k.1 in
     one_made [] line line (new ∷ []) text other _ put (made_replaced line line (new ∷ []) text (sub_ranges line text h.0 h.1)) h.0 (omega arith) h.1
 
@@ -250,7 +255,8 @@ no_size = refl
 pub sized : (e : Edit) (text : List (List ℕ)) → IsInRange e text → HasItsSize e text (edited e text)
 unfolding edited
 sized (edit.Insert after lines) text h =
-    (omega (arith, (made_insert after lines text h).count), omega (arith, size_append (take after text) (lines ++ drop after text), size_append lines (drop after text), size_parts after text))
+    (omega (arith, (made_insert after lines text h).count), omega (arith, size_append (take after text) (lines ++ drop after text),
+        size_append lines (drop after text), size_parts after text))
 sized (edit.Delete first last) text h =
     let none : size [] ≡ 0 = no_size in
     (omega (arith, counted_lines first last [] text h), omega (arith, sized_lines first last [] text h, none))

@@ -1,6 +1,10 @@
 pub mod SizeLemmas
 pub mod LineLemmas
-pub mod PlaceLemmas
 pub mod RefusalLemmas
 pub mod VersionLemmas
 pub mod EditLaws
+pub mod ChangeLemmas
+pub mod PieceLemmas
+pub mod LineEndLemmas
+pub mod SharedLemmas
+pub mod EditedLemmas

@@ -1,10 +1,13 @@
 -- The refusals of an edit, one after another.
-use Rattle.std.proofs.Common.{◌≡◌, ◌≤◌, ◌<◌, ◌+◌, ◌-◌, ℕ, suc, List, [], ◌∷◌, ◌++◌, length, take, drop, true, false, nat_lt, Option, None, Some, refl, ap, sym, ◌∙◌, arith}
+use Rattle.std.proofs.Common.{◌≡◌, ◌≤◌, ◌<◌, ◌+◌, ◌-◌, ℕ, suc, List, [], ◌∷◌, ◌++◌, length, take, drop, true, false, nat_le, nat_lt, Option, None, Some, refl, ap, sym, ◌∙◌, arith}
 use Rattle.std.proofs.lemmas.List.{length-append, length-take, length-drop}
 use Rattle.std.proofs.lemmas.Bool.{le-leb, lt-leb}
-use Rattle.mp_base.specs.declared.limits.TheConstants.{VERSION_LIMIT}
+use Rattle.std.specs.List.{position_from}
+use Rattle.std.specs.Option.{option_map}
+use Rattle.mp_base.specs.declared.limits.TheConstants.{TEXT_LIMIT, VERSION_LIMIT}
+use Rattle.mp_base.specs.Text.{bytes_of}
 use Rattle.mp_text.specs.Edits.{edited, new_lines, substituted, line_at}
-use Rattle.mp_text.specs.Refusals.{IsDue, refusal, back_refusal, first_of, out_of_range, line_long, too_long}
+use Rattle.mp_text.specs.Refusals.{IsDue, refusal, back_refusal, first_of, is_long, out_of_range, line_long, too_long, unless}
 use Rattle.mp_text.specs.Versions.{stands, version_at}
 use Rattle.mp_text.specs.declared.edits.Edit.{Edit}
 use Rattle.mp_text.specs.declared.edits.Edit.TheVariants as edit
@@ -15,7 +18,8 @@ pub refused_full : (versions : List (List (List ℕ))) (base : ℕ) (e : Edit) �
 unfolding refusal
 refused_full versions base e h = let p : nat_lt (length versions) VERSION_LIMIT ≡ false = lt-leb (suc (length versions)) VERSION_LIMIT (omega arith) in rw p refl
 
-pub refused_version : (versions : List (List (List ℕ))) (base : ℕ) (e : Edit) → length versions < VERSION_LIMIT → stands versions base ≡ false → refusal versions base e ≡ Some error.NoVersion
+pub refused_version : (versions : List (List (List ℕ))) (base : ℕ) (e : Edit) → length versions < VERSION_LIMIT → stands versions base ≡ false →
+    refusal versions base e ≡ Some error.NoVersion
 unfolding refusal
 refused_version versions base e h q = let p : nat_lt (length versions) VERSION_LIMIT ≡ true = le-leb (suc (length versions)) VERSION_LIMIT (omega arith) in rw (p, q) refl
 
@@ -29,17 +33,21 @@ due refused error.VersionsFull h = h
 due refused error.Memory h = tt
 
 -- where there is room and the version stands, the edit's own numbers and the new text decide
-refused_later : (versions : List (List (List ℕ))) (base : ℕ) (e : Edit) → length versions < VERSION_LIMIT → stands versions base ≡ true → let text = version_at versions base in refusal versions base e ≡ first_of (out_of_range e text ∷ line_long (edited e text) ∷ too_long (edited e text) ∷ [])
+refused_later : (versions : List (List (List ℕ))) (base : ℕ) (e : Edit) → length versions < VERSION_LIMIT → stands versions base ≡ true →
+    let text = version_at versions base in refusal versions base e ≡ first_of (out_of_range e text ∷ line_long (edited e text) ∷ too_long (edited e text) ∷ [])
 unfolding refusal
 refused_later versions base e h q = let p : nat_lt (length versions) VERSION_LIMIT ≡ true = le-leb (suc (length versions)) VERSION_LIMIT (omega arith) in rw (p, q) refl
 
-pub refused_range : (versions : List (List (List ℕ))) (base : ℕ) (e : Edit) (text : List (List ℕ)) (why : TextError) → length versions < VERSION_LIMIT → stands versions base ≡ true → text ≡ version_at versions base → out_of_range e text ≡ Some why → refusal versions base e ≡ Some why
+pub refused_range : (versions : List (List (List ℕ))) (base : ℕ) (e : Edit) (text : List (List ℕ)) (why : TextError) → length versions < VERSION_LIMIT →
+    stands versions base ≡ true → text ≡ version_at versions base → out_of_range e text ≡ Some why → refusal versions base e ≡ Some why
 refused_range versions base e text why h q it r =
     let base_text = version_at versions base in
     let late : Option TextError → Option TextError = λ o. first_of (o ∷ line_long (edited e base_text) ∷ too_long (edited e base_text) ∷ []) in
     refused_later versions base e h q ∙ ap late (ap (out_of_range e) (sym it) ∙ r)
 
-pub refused_size : (versions : List (List (List ℕ))) (base : ℕ) (e : Edit) (text made : List (List ℕ)) (r : Option TextError) → length versions < VERSION_LIMIT → stands versions base ≡ true → text ≡ version_at versions base → out_of_range e text ≡ None → made ≡ edited e text → first_of (line_long made ∷ too_long made ∷ []) ≡ r → refusal versions base e ≡ r
+pub refused_size : (versions : List (List (List ℕ))) (base : ℕ) (e : Edit) (text made : List (List ℕ)) (r : Option TextError) →
+    length versions < VERSION_LIMIT → stands versions base ≡ true → text ≡ version_at versions base → out_of_range e text ≡ None → made ≡ edited e text →
+    first_of (line_long made ∷ too_long made ∷ []) ≡ r → refusal versions base e ≡ r
 refused_size versions base e text made r h q it none m size =
     let base_text = version_at versions base in
     let late : Option TextError → Option TextError = λ o. first_of (o ∷ line_long (edited e base_text) ∷ too_long (edited e base_text) ∷ []) in
@@ -62,7 +70,25 @@ back_stands versions v h q = let p : nat_lt (length versions) VERSION_LIMIT ≡ 
 -- an edit brings few lines
 pub edited_few : (e : Edit) (text : List (List ℕ)) → length (edited e text) ≤ length text + length text + length (new_lines e)
 unfolding edited
-edited_few (edit.Insert after lines) text = omega (arith, length-append (take after text) (lines ++ drop after text), length-append lines (drop after text), length-take after text, length-drop after text)
+edited_few (edit.Insert after lines) text = omega (arith, length-append (take after text) (lines ++ drop after text), length-append lines (drop after text),
+    length-take after text, length-drop after text)
 edited_few (edit.Delete first last) text = omega (arith, length-append (take (first - 1) text) (drop last text), length-take (first - 1) text, length-drop last text)
-edited_few (edit.Replace first last lines) text = omega (arith, length-append (take (first - 1) text) (lines ++ drop last text), length-append lines (drop last text), length-take (first - 1) text, length-drop last text)
-edited_few (edit.Sub line column count bytes) text = omega (arith, length-append (take (line - 1) text) (substituted column count bytes (line_at text line) ∷ drop line text), length-take (line - 1) text, length-drop line text)
+edited_few (edit.Replace first last lines) text = omega (arith, length-append (take (first - 1) text) (lines ++ drop last text),
+    length-append lines (drop last text), length-take (first - 1) text, length-drop last text)
+edited_few (edit.Sub line column count bytes) text = omega (arith, length-append (take (line - 1) text) (substituted column count bytes (line_at text line)
+    ∷ drop line text), length-take (line - 1) text, length-drop line text)
+
+-- a new text whose lines are short enough
+pub too_made : (made : List (List ℕ)) (bytes : ℕ) → position_from is_long 1 made ≡ None → bytes ≡ length (bytes_of made) → TEXT_LIMIT < bytes →
+    first_of (line_long made ∷ too_long made ∷ []) ≡ Some (error.TooLong bytes)
+too_made made bytes none e l =
+    let n = length (bytes_of made) in
+    let big : nat_le n TEXT_LIMIT ≡ false = lt-leb n TEXT_LIMIT (omega arith) in
+    ap (λ o. first_of (option_map (λ line. error.LineLong line) o ∷ too_long made ∷ [])) none ∙ ap (λ b. first_of (unless b (error.TooLong n) ∷ [])) big
+        ∙ ap (λ k. Some (error.TooLong k)) (sym e)
+
+pub kept_made : (made : List (List ℕ)) → position_from is_long 1 made ≡ None → length (bytes_of made) ≤ TEXT_LIMIT → first_of (line_long made ∷ too_long made ∷ []) ≡ None
+kept_made made none l =
+    let n = length (bytes_of made) in
+    let small : nat_le n TEXT_LIMIT ≡ true = le-leb n TEXT_LIMIT l in
+    ap (λ o. first_of (option_map (λ line. error.LineLong line) o ∷ too_long made ∷ [])) none ∙ ap (λ b. first_of (unless b (error.TooLong n) ∷ [])) small

@@ -1,5 +1,5 @@
 -- What edits do, told by the numbers of lines and bytes: laws of `edited` and of `out_of_range`.
-use Rattle.std.specs.Prelude.{◌≡◌, ◌↔◌, ℕ, ◌+◌, ◌-◌, ◌<◌, ◌≤◌, List, [], ◌∷◌, length, take, drop, slice_index_or, Option, None}
+use Rattle.std.specs.Prelude.{◌≡◌, ◌↔◌, ℕ, ◌+◌, ◌-◌, ◌<◌, ◌≤◌, List, [], ◌∷◌, length, take, drop, slice_index_or, None}
 use Rattle.mp_base.specs.Text.{bytes_of}
 use Rattle.mp_text.specs.Edits.{IsInRange, edited, line_at}
 use Rattle.mp_text.specs.Refusals.{out_of_range}

@@ -1,5 +1,6 @@
 // What the definitions of this crate promise: each function's contract is one law of them.
 ghost use Rattle.std.specs.Prelude.{List, ℕ};
+ghost use Rattle.mp_text.specs.Changes.{IsByteChange, SplicesLines};
 ghost use Rattle.mp_text.specs.Edits.{IsInRange, edited};
 ghost use Rattle.mp_text.specs.Meant.{HasItsSize, IsRangeTested, MakesOneText};
 ghost use Rattle.mp_text.specs.declared.edits.Edit.{Edit};
@@ -18,4 +19,14 @@ pub fn edits_change_their_place()
 /// The new text has as many lines and bytes as the old one, less those that are taken away, and those that are brought.
 pub fn sizes_of_edits()
     ensures { (edit : Edit) (text : List (List ℕ)) → IsInRange edit text → HasItsSize edit text (edited edit text) }
+{}
+
+/// An edit that is in range changes a text's bytes at one place.
+pub fn edit_is_a_byte_change()
+    ensures { (edit : Edit) (text : List (List ℕ)) → IsInRange edit text → IsByteChange edit text }
+{}
+
+/// The lines of a text's bytes, changed so, are the edited text.
+pub fn edited_lines()
+    ensures { (edit : Edit) (text : List (List ℕ)) → SplicesLines edit text }
 {}

@@ -1,24 +1,26 @@
 ghost use Rattle.std.specs.Prelude.{◌≡◌, ◌<◌, ◌≤◌, ◌^◌, ◌++◌, ◌∷◌, [], IfErr, IfOk, IsTrue, MatchOption, None, OnErr, OnOk, false, length, true};
 ghost use Rattle.mp_base.specs.Position.{position_of};
 ghost use Rattle.mp_base.specs.Text.{bytes_of};
-ghost use Rattle.mp_text.specs.Edits.{edited, new_lines};
+ghost use Rattle.mp_text.specs.Changes.{change_removed, change_start};
+ghost use Rattle.mp_text.specs.Edits.{IsInRange, edited, new_lines};
 ghost use Rattle.mp_text.specs.Refusals.{IsDue, back_refusal, no_version, refusal};
 ghost use Rattle.mp_text.specs.Versions.{AreVersions, IsText, stands, version_at};
 
-use crate::bytes::{joined, position};
 use crate::edits::Edit;
 use crate::errors::TextError;
-use crate::making::{copy, edited};
+use crate::pieces::VersionReader;
+use crate::prepared::Prepared;
 use crate::ranges::check_range;
+use crate::shared::SharedText;
 use crate::sizes::check_size;
-use mp_base::{At, Bytes, Memory, TextLine, TextLines, VERSION_LIMIT, Version};
+use mp_base::{At, Bytes, Memory, VERSION_LIMIT, Version};
 use std::alloc::Global;
 use std::marker::Model;
 
 /// Every version of a text. Version 1 is empty, and each new version has the next number; none ever changes.
 #[derive(Drop)]
 pub struct Texts {
-    versions: Vec<TextLines>,
+    versions: Vec<SharedText>,
 }
 
 impl Model for Texts {
@@ -32,31 +34,32 @@ impl Model for Texts {
     ghost invariant = { λ texts. AreVersions texts.versions.items };
 }
 
-// The lines of a version, where it stands.
-fn version(versions: &[TextLines], v: Version) -> Option<&[TextLine]>
+// A version, where it stands.
+fn version(versions: &[SharedText], v: Version) -> Option<&SharedText>
     ensures { MatchOption result (stands versions.now v.0 ≡ false) (λ text. (stands versions.now v.0 ≡ true) × (text.now ≡ version_at versions.now v.0)) }
 {
     let v = v.0 as usize;
     if v < 1 || versions.len() < v {
         return None;
     }
-    Some(versions[v - 1].get())
+    Some(&versions[v - 1])
 }
 
 // What an edit makes of a version, where it is not refused.
 fn changed(
     alloc: Global,
-    versions: &[TextLines],
+    versions: &[SharedText],
     base: Version,
-    edit: Edit,
-) -> Result<TextLines, TextError>
+    edit: &Edit,
+) -> Result<Prepared, TextError>
     requires versions { AreVersions versions.now }
-    requires few { length (new_lines edit) < 2 ^ 31 }
-    ensures ok { OnOk result (refusal versions.now base.0 edit ≡ None) }
-    ensures text { IfOk result (λ text. text ≡ edited edit (version_at versions.now base.0)) }
-    ensures kept { IfOk result (λ text. IsText text) }
+    requires few { length (new_lines edit.now) < 2 ^ 31 }
+    ensures ok { OnOk result (refusal versions.now base.0 edit.now ≡ None) }
+    ensures stands { OnOk result (IsTrue (stands versions.now base.0)) }
+    ensures range { OnOk result (IsInRange edit.now (version_at versions.now base.0)) }
+    ensures text { IfOk result (λ made. made ≡ edited edit.now (version_at versions.now base.0)) }
     ensures room { OnOk result (length versions.now < VERSION_LIMIT) }
-    ensures err { IfErr result (λ e. IsDue e (refusal versions.now base.0 edit)) }
+    ensures err { IfErr result (λ e. IsDue e (refusal versions.now base.0 edit.now)) }
 {
     if versions.len() >= VERSION_LIMIT {
         return Err(TextError::VersionsFull);
@@ -64,24 +67,24 @@ fn changed(
     let Some(text) = version(versions, base) else {
         return Err(TextError::NoVersion);
     };
-    match check_range(text, &edit) {
+    match check_range(text, edit) {
         Err(error) => Err(error),
-        Ok(()) => match edited(alloc, text, edit) {
-            Err(_) => Err(TextError::Memory),
-            Ok(made) => match check_size(&made) {
-                Err(error) => Err(error),
-                Ok(()) => Ok(TextLines::from_vec(made)),
+        Ok(()) => match check_size(text, edit) {
+            Err(error) => Err(error),
+            Ok(()) => match text.edited(alloc, edit) {
+                Err(_) => Err(TextError::Memory),
+                Ok(made) => Ok(Prepared::new(made)),
             },
         },
     }
 }
 
-// A copy of a version, where going back to it is not refused.
-fn earlier(alloc: Global, versions: &[TextLines], v: Version) -> Result<TextLines, TextError>
+// The text of a version, where going back to it is not refused.
+fn earlier(alloc: Global, versions: &[SharedText], v: Version) -> Result<Prepared, TextError>
     requires { AreVersions versions.now }
     ensures ok { OnOk result (back_refusal versions.now v.0 ≡ None) }
-    ensures text { IfOk result (λ text. text ≡ version_at versions.now v.0) }
-    ensures kept { IfOk result (λ text. IsText text) }
+    ensures stands { OnOk result (IsTrue (stands versions.now v.0)) }
+    ensures text { IfOk result (λ made. made ≡ version_at versions.now v.0) }
     ensures room { OnOk result (length versions.now < VERSION_LIMIT) }
     ensures err { IfErr result (λ e. IsDue e (back_refusal versions.now v.0)) }
 {
@@ -91,9 +94,9 @@ fn earlier(alloc: Global, versions: &[TextLines], v: Version) -> Result<TextLine
     let Some(text) = version(versions, v) else {
         return Err(TextError::NoVersion);
     };
-    match copy(alloc, text) {
+    match text.copy(alloc) {
         Err(_) => Err(TextError::Memory),
-        Ok(made) => Ok(made),
+        Ok(made) => Ok(Prepared::new(made)),
     }
 }
 
@@ -103,20 +106,49 @@ impl Texts {
         ensures { IfOk result (λ texts. texts ≡ [] ∷ []) }
     {
         let mut versions = Vec::new(alloc);
-        versions.push(TextLines::new(alloc))?;
+        versions.push(SharedText::new(alloc))?;
         Ok(Texts { versions })
     }
 
-    // Adds a version.
-    fn add(&mut self, text: TextLines) -> Result<Version, TextError>
-        requires text { IsText text }
-        requires room { length self.old < VERSION_LIMIT }
-        ensures text { OnOk result (self.new ≡ self.old ++ text ∷ []) }
+    /// What an edit makes of a version that stands. It is refused as by `apply`, and changes nothing: `add` makes a
+    /// version of it. Between the two all may be done that can fail. The edit brings fewer than 2^31 lines.
+    pub fn prepared(&self, base: Version, edit: &Edit) -> Result<Prepared, TextError>
+        requires { length (new_lines edit.now) < 2 ^ 31 }
+        ensures ok { OnOk result (refusal self.now base.0 edit.now ≡ None) }
+        ensures stands { OnOk result (IsTrue (stands self.now base.0)) }
+        ensures range { OnOk result (IsInRange edit.now (version_at self.now base.0)) }
+        ensures text { IfOk result (λ made. made ≡ edited edit.now (version_at self.now base.0)) }
+        ensures room { OnOk result (length self.now < VERSION_LIMIT) }
+        ensures err { IfErr result (λ e. IsDue e (refusal self.now base.0 edit.now)) }
+    {
+        changed(
+            *self.versions.allocator(),
+            self.versions.as_slice(),
+            base,
+            edit,
+        )
+    }
+
+    /// The text of a version that stands, as a new version. It is refused as by `back`, and changes nothing.
+    pub fn prepared_back(&self, v: Version) -> Result<Prepared, TextError>
+        ensures ok { OnOk result (back_refusal self.now v.0 ≡ None) }
+        ensures stands { OnOk result (IsTrue (stands self.now v.0)) }
+        ensures text { IfOk result (λ made. made ≡ version_at self.now v.0) }
+        ensures room { OnOk result (length self.now < VERSION_LIMIT) }
+        ensures err { IfErr result (λ e. IsDue e (back_refusal self.now v.0)) }
+    {
+        earlier(*self.versions.allocator(), self.versions.as_slice(), v)
+    }
+
+    /// Adds what was prepared as a new version, and gives its number. Where it finds no memory nothing changes.
+    pub fn add(&mut self, made: Prepared) -> Result<Version, TextError>
+        requires { length self.old < VERSION_LIMIT }
+        ensures text { OnOk result (self.new ≡ self.old ++ made ∷ []) }
         ensures number { IfOk result (λ v. v.0 ≡ length self.new) }
         ensures err { IfErr result (λ e. e ≡ TextError.Memory) }
         ensures kept { OnErr result (self.new ≡ self.old) }
     {
-        match self.versions.push(text) {
+        match self.versions.push(made.into_text()) {
             Err(_) => Err(TextError::Memory),
             Ok(()) => Ok(Version(self.versions.len() as u32)),
         }
@@ -133,7 +165,7 @@ impl Texts {
         ensures kept { OnErr result (self.new ≡ self.old) }
     {
         let alloc = *self.versions.allocator();
-        match changed(alloc, self.versions.as_slice(), base, edit) {
+        match changed(alloc, self.versions.as_slice(), base, &edit) {
             Err(error) => Err(error),
             Ok(text) => match self.add(text) {
                 Err(error) => Err(error),
@@ -180,37 +212,70 @@ impl Texts {
         let Some(text) = version(self.versions.as_slice(), v) else {
             return Err(TextError::NoVersion);
         };
-        match joined(*self.versions.allocator(), text) {
+        match text.bytes(*self.versions.allocator()) {
             Err(_) => Err(TextError::Memory),
             Ok(bytes) => Ok(bytes),
         }
     }
 
+    /// The bytes of a version, one by one.
+    pub fn reader(&self, v: Version) -> VersionReader<'_>
+        requires { IsTrue (stands self.now v.0) }
+        ensures { result ≡ bytes_of (version_at self.now v.0) }
+    {
+        self.text(v).reader()
+    }
+
     /// The line and column, both from 1, of a byte of a version, or of its end.
-    #[tactic(auto, using(crate::proofs::SizeLemmas::lines_few))]
     pub fn line_of(&self, v: Version, byte: u32) -> At
         requires stands { IsTrue (stands self.now v.0) }
         requires within { byte ≤ length (bytes_of (version_at self.now v.0)) }
         ensures { result ≡ position_of (version_at self.now v.0) byte }
     {
-        position(self.lines(v), byte)
+        self.text(v).position(byte)
     }
 
     /// The number of lines of a version.
-    #[tactic(auto, using(crate::proofs::SizeLemmas::lines_few))]
     pub fn line_count(&self, v: Version) -> u32
         requires { IsTrue (stands self.now v.0) }
         ensures { result ≡ length (version_at self.now v.0) }
     {
-        self.lines(v).len() as u32
+        self.text(v).line_count()
     }
 
-    // The lines of a version.
-    fn lines(&self, v: Version) -> &[TextLine]
+    /// The number of bytes of a version.
+    pub fn len(&self, v: Version) -> u32
+        requires { IsTrue (stands self.now v.0) }
+        ensures len { result ≡ length (bytes_of (version_at self.now v.0)) }
+        ensures text { IsText (version_at self.now v.0) }
+    {
+        self.text(v).len()
+    }
+
+    /// Where an edit changes the bytes of a version.
+    pub fn change_start(&self, v: Version, edit: &Edit) -> u32
+        requires stands { IsTrue (stands self.now v.0) }
+        requires range { IsInRange edit.now (version_at self.now v.0) }
+        ensures { result ≡ change_start edit.now (version_at self.now v.0) }
+    {
+        self.text(v).change_start(edit)
+    }
+
+    /// How many bytes an edit takes away from a version.
+    pub fn change_removed(&self, v: Version, edit: &Edit) -> u32
+        requires stands { IsTrue (stands self.now v.0) }
+        requires range { IsInRange edit.now (version_at self.now v.0) }
+        ensures { result ≡ change_removed edit.now (version_at self.now v.0) }
+    {
+        self.text(v).change_removed(edit)
+    }
+
+    // A version.
+    fn text(&self, v: Version) -> &SharedText
         requires { IsTrue (stands self.now v.0) }
         ensures lines { result.now ≡ version_at self.now v.0 }
         ensures text { IsText result.now }
     {
-        self.versions[v.0 as usize - 1].get()
+        &self.versions[v.0 as usize - 1]
     }
 }
