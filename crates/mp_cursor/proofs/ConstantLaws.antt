@@ -8,7 +8,7 @@ use Rattle.mp_ast.specs.Rules as rule
 use Rattle.mp_ast.specs.LeafGrammar as grammar
 use Rattle.mp_cursor.specs.declared.next.Next.TheVariants as next
 use Rattle.mp_ast.specs.Rules.{◌<$>◌ as ◌<$>ʳ◌, ◌<|>◌ as ◌<|>ʳ◌}
-use Rattle.mp_cursor.specs.Nexts.{Nexts, is, any, either, among, but}
+use Rattle.mp_cursor.specs.Nexts.{Nexts, is, any, either, among}
 use Rattle.mp_cursor.proofs.NextSets.{within_any, apart}
 use Rattle.mp_cursor.proofs.SameRules.{or_swapped}
 use Rattle.mp_cursor.specs.Leaves.{sign, signs, optional_sign, signed, signed_constant, constant, constants, identifiers}

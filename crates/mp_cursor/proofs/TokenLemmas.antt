@@ -1,5 +1,5 @@
 -- The kinds of the tokens behind others.
-use Rattle.std.proofs.Common.{◌≡◌, ℕ, ◌-◌, ◌≤◌, List, drop, take, length, refl, sym, ap, ◌∙◌, arith}
+use Rattle.std.proofs.Common.{◌≡◌, ℕ, ◌-◌, List, drop, take, length, sym, ap, ◌∙◌, arith}
 use Rattle.std.proofs.lemmas.List.{drop-map, length-drop, take_all}
 use Rattle.mp_ast.specs.declared.tokens.Token.{Token}
 use Rattle.mp_ast.specs.Programs.{kinds_of}

@@ -8,15 +8,9 @@ use Rattle.mp_ast.specs.declared.leaves.Constant.{Constant}
 use Rattle.mp_ast.specs.declared.leaves.Constant.TheVariants as c
 use Rattle.mp_cursor.specs.declared.next.Next.TheVariants as next
 use Rattle.mp_cursor.specs.Nexts.{Nexts, is, among}
-use Rattle.mp_cursor.specs.Parsers.{Parser, ◌>>=◌, ◌>>◌, ◌<$>◌, pure, branch, optional, expect, identifier, number, character_string, separated, repeated, and_one}
+use Rattle.mp_cursor.specs.Parsers.{Parser, ◌>>=◌, ◌<$>◌, pure, branch, optional, expect, identifier, number, character_string, separated}
 
 -- names with commas between them
-abbrev pub further_identifier : List Identifier → Parser (List Identifier)
-further_identifier = and_one (expect (next.Symbol s.Comma) >> identifier)
-
-abbrev pub further_identifiers : List Identifier → Parser (List Identifier)
-further_identifiers = repeated (is (next.Symbol s.Comma)) further_identifier
-
 abbrev pub identifiers : Parser (List Identifier)
 identifiers = separated (next.Symbol s.Comma) identifier
 
@@ -49,11 +43,5 @@ unfoldable pub constant : Parser Constant
 constant = branch (is next.Text) (c.Text <$> character_string) signed_constant
 
 -- constants with commas between them
-abbrev pub further_constant : List Constant → Parser (List Constant)
-further_constant = and_one (expect (next.Symbol s.Comma) >> constant)
-
-abbrev pub further_constants : List Constant → Parser (List Constant)
-further_constants = repeated (is (next.Symbol s.Comma)) further_constant
-
 abbrev pub constants : Parser (List Constant)
 constants = separated (next.Symbol s.Comma) constant

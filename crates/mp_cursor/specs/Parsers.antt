@@ -157,11 +157,15 @@ and_one p found = (λ x. found ++ x ∷ []) <$> p
 abbrev pub and_all : {A : Type 0} → Parser (List A) → List A → Parser (List A)
 and_all p found = (λ more. found ++ more) <$> p
 
+-- more items at the end, each behind a separator
+abbrev pub further : {A : Type 0} → Next → Parser A → List A → Parser (List A)
+further separator p = repeated (is separator) (and_one (expect separator >> p))
+
 -- at least one item, with separators between them
 abbrev pub separated : {A : Type 0} → Next → Parser A → Parser (List A)
 separated separator p = do
   first ← p
-  repeated (is separator) (and_one (expect separator >> p)) (first ∷ [])
+  further separator p (first ∷ [])
 
 -- the same, and one more separator where no item follows it
 abbrev pub separated_series : {A : Type 0} → Next → Nexts → Parser A → Parser (List A)

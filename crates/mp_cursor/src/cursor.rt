@@ -1,6 +1,6 @@
 #![tactic(auto, unfolding(crate::specs::Parsers::next_token, crate::specs::Parsers::behind, crate::specs::Parsers::left, crate::specs::Parsers::wrong, crate::specs::Parsers::too_deep, crate::specs::Parsers::too_many, crate::specs::Parsers::expect, crate::specs::Parsers::opening, crate::specs::Parsers::counted))]
 
-ghost use Rattle.std.specs.Prelude.{◌≡◌, ◌+◌, ◌-◌, ◌<◌, ◌≤◌, IfOk, bytes_eq, drop, length};
+ghost use Rattle.std.specs.Prelude.{◌≡◌, ◌+◌, ◌-◌, ◌<◌, ◌≤◌, IfOk, bytes_eq, drop, if◌then◌else◌, length};
 ghost use Rattle.mp_ast.specs.Programs.{kinds_of, start_of};
 ghost use Rattle.mp_cursor.specs.Nexts.{is};
 ghost use Rattle.mp_cursor.specs.Parsers as spec;
@@ -131,6 +131,18 @@ impl<'a> Cursor<'a> {
             self.at = at + 1;
         }
         at
+    }
+
+    /// Goes past the next token where it is this one, and says whether it was.
+    pub fn takes(&mut self, next: Next) -> bool
+        ensures seen { result ≡ is next (spec.next_token self.old) }
+        ensures behind { self.new ≡ (if result then spec.behind self.old else self.old) }
+    {
+        let seen = self.sees(next);
+        if seen {
+            self.take();
+        }
+        seen
     }
 
     /// Goes past the next token, which is to be this one, and answers its ordinal.

@@ -1,17 +1,15 @@
-#![tactic(auto, using(crate::proofs::LoopLemmas::loop_more, crate::proofs::LoopLemmas::loop_done), unfolding(crate::specs::Parsers::repeated, crate::specs::Leaves::further_identifier, crate::specs::Leaves::further_constant))]
-
 ghost use Rattle.std.specs.Prelude.{◌≡◌, ◌∷◌};
 ghost use Rattle.mp_cursor.specs.Nexts as nexts;
 ghost use Rattle.mp_cursor.specs.LeafTokens.{constant_begins};
 ghost use Rattle.mp_cursor.specs.Leaves as spec;
-ghost use Rattle.mp_cursor.specs.Parsers.{Reads, repeated, and_one, expect, identifier as name};
+ghost use Rattle.mp_cursor.specs.Parsers.{Reads, identifier as name};
 ghost use Rattle.mp_cursor.specs.declared.next.Next.TheVariants as token;
 ghost use Rattle.mp_ast.specs.declared.symbols.Symbol.TheVariants as symbol;
 
 use crate::cursor::Cursor;
 use crate::failure::Failure;
-use crate::lists::single;
 use crate::next::Next;
+use crate::productions::{Production, separated};
 use mp_ast::{Constant, Identifier, Sign, SignKind, Symbol};
 use sqlite_items::Items;
 use std::alloc::Global;
@@ -85,57 +83,44 @@ pub fn constant(alloc: Global, tokens: &mut Cursor<'_>) -> Result<Constant, Fail
     }
 }
 
-fn further_identifiers(
-    tokens: &mut Cursor<'_>,
-    first: Items<Identifier>,
-) -> Result<Items<Identifier>, Failure>
-    ensures { Reads (spec.further_identifiers first tokens.old) result tokens.new }
-{
-    let mut found = first;
-    'names: for _turn in 0..tokens.left() {
-        if !tokens.sees(Next::Symbol(Symbol::Comma)) {
-            return Ok(found);
-        }
-        tokens.expect(Next::Symbol(Symbol::Comma))?;
-        found.push(tokens.identifier()?)?;
+#[derive(Drop)]
+struct Name;
+
+impl Production for Name {
+    type Item = Identifier;
+
+    ghost parser = { λ _. name };
+
+    fn read(&self, tokens: &mut Cursor<'_>) -> Result<Identifier, Failure> {
+        tokens.identifier()
     }
-    Ok(found)
 }
 
 /// Names with commas between them.
-#[tactic(auto)]
 pub fn identifiers(alloc: Global, tokens: &mut Cursor<'_>) -> Result<Items<Identifier>, Failure>
     ensures { Reads (spec.identifiers tokens.old) result tokens.new }
 {
-    let first = tokens.identifier()?;
-    let found = single(alloc, first)?;
-    further_identifiers(tokens, found)
+    separated(alloc, tokens, Symbol::Comma, &Name)
 }
 
-fn further_constants(
+#[derive(Drop)]
+struct OneConstant {
     alloc: Global,
-    tokens: &mut Cursor<'_>,
-    first: Items<Constant>,
-) -> Result<Items<Constant>, Failure>
-    ensures { Reads (spec.further_constants first tokens.old) result tokens.new }
-{
-    let mut found = first;
-    'constants: for _turn in 0..tokens.left() {
-        if !tokens.sees(Next::Symbol(Symbol::Comma)) {
-            return Ok(found);
-        }
-        tokens.expect(Next::Symbol(Symbol::Comma))?;
-        found.push(constant(alloc, tokens)?)?;
+}
+
+impl Production for OneConstant {
+    type Item = Constant;
+
+    ghost parser = { λ _. spec.constant };
+
+    fn read(&self, tokens: &mut Cursor<'_>) -> Result<Constant, Failure> {
+        constant(self.alloc, tokens)
     }
-    Ok(found)
 }
 
 /// Constants with commas between them.
-#[tactic(auto)]
 pub fn constants(alloc: Global, tokens: &mut Cursor<'_>) -> Result<Items<Constant>, Failure>
     ensures { Reads (spec.constants tokens.old) result tokens.new }
 {
-    let first = constant(alloc, tokens)?;
-    let found = single(alloc, first)?;
-    further_constants(alloc, tokens, found)
+    separated(alloc, tokens, Symbol::Comma, &OneConstant { alloc })
 }

@@ -14,9 +14,11 @@ pub mod laws;
 mod leaves;
 mod lists;
 mod next;
+mod productions;
 
 pub use cursor::Cursor;
 pub use failure::Failure;
 pub use leaves::{begins_constant, constant, constants, identifiers, optional_sign};
 pub use lists::{added, single};
 pub use next::Next;
+pub use productions::{Production, separated};

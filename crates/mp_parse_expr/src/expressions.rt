@@ -1,4 +1,4 @@
-#![tactic(auto, using(crate::proofs::RoomLemmas::behind_is, mp_cursor::proofs::LoopLemmas::loop_more, mp_cursor::proofs::LoopLemmas::loop_done), unfolding(mp_cursor::specs::Parsers::repeated, crate::specs::Expressions::further_index, crate::specs::Expressions::further_selection, crate::specs::Expressions::further_actual, crate::specs::Expressions::further_member, crate::specs::Expressions::further_factor, crate::specs::Expressions::further_term))]
+#![tactic(auto, using(crate::proofs::RoomLemmas::behind_is, mp_cursor::proofs::LoopLemmas::loop_more, mp_cursor::proofs::LoopLemmas::loop_done), unfolding(mp_cursor::specs::Parsers::expect, mp_cursor::specs::Parsers::repeated, crate::specs::Expressions::further_index, crate::specs::Expressions::further_selection, crate::specs::Expressions::further_actual, crate::specs::Expressions::further_member, crate::specs::Expressions::further_factor, crate::specs::Expressions::further_term))]
 
 ghost use Rattle.std.specs.Prelude.{◌≡◌, ◌<◌, [], ◌∷◌};
 ghost use Rattle.mp_ast.specs.ExpressionGrammar as grammar;
@@ -178,10 +178,9 @@ fn further_actuals(
 {
     let mut found = first;
     'actuals: for _turn in 0..tokens.left() {
-        if !tokens.sees(Next::Symbol(Symbol::Comma)) {
+        if !tokens.takes(Next::Symbol(Symbol::Comma)) {
             return Ok(found);
         }
-        tokens.expect(Next::Symbol(Symbol::Comma))?;
         found.push(actual(alloc, tokens, room)?)?;
     }
     Ok(found)
@@ -238,10 +237,9 @@ fn further_members(
 {
     let mut found = first;
     'members: for _turn in 0..tokens.left() {
-        if !tokens.sees(Next::Symbol(Symbol::Comma)) {
+        if !tokens.takes(Next::Symbol(Symbol::Comma)) {
             return Ok(found);
         }
-        tokens.expect(Next::Symbol(Symbol::Comma))?;
         found.push(member(alloc, tokens, room)?)?;
     }
     Ok(found)

@@ -75,13 +75,10 @@ for_head expression = do
 unfoldable pub further_record : Parser (Access Expr) → List (Access Expr) → Parser (List (Access Expr))
 further_record access = and_one (expect (Symbol s.Comma) >> access)
 
-abbrev pub further_records : Parser (Access Expr) → List (Access Expr) → Parser (List (Access Expr))
-further_records access = repeated (is (Symbol s.Comma)) (further_record access)
-
 unfoldable pub records : Parser (Access Expr) → Parser (List (Access Expr))
 records access = do
   first ← access
-  further_records access (first ∷ [])
+  repeated (is (Symbol s.Comma)) (further_record access) (first ∷ [])
 
 -- ---- what has statements in it
 

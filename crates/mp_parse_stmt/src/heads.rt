@@ -4,19 +4,18 @@ ghost use Rattle.mp_parse_expr.specs.Expressions as expressions;
 ghost use Rattle.mp_parse_stmt.specs.Statements as spec;
 
 use mp_ast::{Access, Direction, Expr, ForHead, Symbol, WordSymbol};
-use mp_cursor::{Cursor, Failure, Next, single};
+use mp_cursor::{Cursor, Failure, Next, Production, separated};
 use mp_parse_expr::{access, expression};
 use sqlite_items::{Boxed, Items};
 use std::alloc::Global;
 
 // In these functions `room` is how many more openers may stand open.
 
-#[tactic(auto, unfolding(crate::specs::Statements::direction))]
+#[tactic(auto, unfolding(mp_cursor::specs::Parsers::expect, crate::specs::Statements::direction))]
 fn direction(tokens: &mut Cursor<'_>) -> Result<Direction, Failure>
     ensures { Reads (spec.direction tokens.old) result tokens.new }
 {
-    if tokens.sees(Next::Word(WordSymbol::To)) {
-        tokens.expect(Next::Word(WordSymbol::To))?;
+    if tokens.takes(Next::Word(WordSymbol::To)) {
         return Ok(Direction::To);
     }
     tokens.expect(Next::Word(WordSymbol::Downto))?;
@@ -53,28 +52,24 @@ pub(crate) fn for_head(
     Ok(Boxed::new(alloc, head)?)
 }
 
-#[tactic(auto, using(mp_cursor::proofs::LoopLemmas::loop_more, mp_cursor::proofs::LoopLemmas::loop_done), unfolding(mp_cursor::specs::Parsers::repeated, crate::specs::Statements::further_record))]
-fn further_records(
+#[derive(Drop)]
+struct Record {
     alloc: Global,
-    tokens: &mut Cursor<'_>,
     room: usize,
-    first: Items<Access<Expr>>,
-) -> Result<Items<Access<Expr>>, Failure>
-    ensures { Reads (spec.further_records (expressions.access room) first tokens.old) result tokens.new }
-{
-    let mut found = first;
-    'records: for _turn in 0..tokens.left() {
-        if !tokens.sees(Next::Symbol(Symbol::Comma)) {
-            return Ok(found);
-        }
-        tokens.expect(Next::Symbol(Symbol::Comma))?;
-        found.push(access(alloc, tokens, room)?)?;
+}
+
+impl Production for Record {
+    type Item = Access<Expr>;
+
+    ghost parser = { λ one. expressions.access one.room };
+
+    fn read(&self, tokens: &mut Cursor<'_>) -> Result<Access<Expr>, Failure> {
+        access(self.alloc, tokens, self.room)
     }
-    Ok(found)
 }
 
 /// The records of a with statement (ISO 7185, 6.8.3.10).
-#[tactic(auto, unfolding(crate::specs::Statements::records))]
+#[tactic(auto, unfolding(crate::specs::Statements::records, crate::specs::Statements::further_record))]
 pub(crate) fn records(
     alloc: Global,
     tokens: &mut Cursor<'_>,
@@ -82,7 +77,5 @@ pub(crate) fn records(
 ) -> Result<Items<Access<Expr>>, Failure>
     ensures { Reads (spec.records (expressions.access room) tokens.old) result tokens.new }
 {
-    let first = access(alloc, tokens, room)?;
-    let found = single(alloc, first)?;
-    further_records(alloc, tokens, room, found)
+    separated(alloc, tokens, Symbol::Comma, &Record { alloc, room })
 }

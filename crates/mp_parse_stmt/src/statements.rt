@@ -16,7 +16,7 @@ use std::alloc::Global;
 // ---- what has statements in it
 
 #[cycle(statements)]
-#[tactic(auto, using(mp_cursor::proofs::LoopLemmas::loop_more, mp_cursor::proofs::LoopLemmas::loop_done), unfolding(mp_cursor::specs::Parsers::repeated, crate::specs::Statements::further_statement))]
+#[tactic(auto, using(mp_cursor::proofs::LoopLemmas::loop_more, mp_cursor::proofs::LoopLemmas::loop_done), unfolding(mp_cursor::specs::Parsers::expect, mp_cursor::specs::Parsers::repeated, crate::specs::Statements::further_statement))]
 fn further_statements(
     alloc: Global,
     tokens: &mut Cursor<'_>,
@@ -27,10 +27,9 @@ fn further_statements(
 {
     let mut found = first;
     'statements: for _turn in 0..tokens.left() {
-        if !tokens.sees(Next::Symbol(Symbol::Semicolon)) {
+        if !tokens.takes(Next::Symbol(Symbol::Semicolon)) {
             return Ok(found);
         }
-        tokens.expect(Next::Symbol(Symbol::Semicolon))?;
         found.push(statement(alloc, tokens, room)?)?;
     }
     Ok(found)
@@ -53,7 +52,7 @@ pub fn sequence(
 
 // The statement behind `else`, where `else` stands next.
 #[cycle(statements)]
-#[tactic(auto, unfolding(crate::specs::Statements::else_part))]
+#[tactic(auto, unfolding(mp_cursor::specs::Parsers::expect, crate::specs::Statements::else_part))]
 fn else_part(
     alloc: Global,
     tokens: &mut Cursor<'_>,
@@ -61,10 +60,9 @@ fn else_part(
 ) -> Result<Option<Boxed<Statement>>, Failure>
     ensures { Reads (spec.else_part (spec.statement room) tokens.old) result tokens.new }
 {
-    if !tokens.sees(Next::Word(WordSymbol::Else)) {
+    if !tokens.takes(Next::Word(WordSymbol::Else)) {
         return Ok(None);
     }
-    tokens.expect(Next::Word(WordSymbol::Else))?;
     let second = statement(alloc, tokens, room)?;
     Ok(Some(Boxed::new(alloc, second)?))
 }
@@ -81,7 +79,7 @@ fn arm(alloc: Global, tokens: &mut Cursor<'_>, room: usize) -> Result<Arm<Statem
 }
 
 #[cycle(statements)]
-#[tactic(auto, using(mp_cursor::proofs::LoopLemmas::series_more, mp_cursor::proofs::LoopLemmas::series_done), unfolding(mp_cursor::specs::Parsers::repeated_series, crate::specs::Statements::further_arm))]
+#[tactic(auto, using(mp_cursor::proofs::LoopLemmas::series_more, mp_cursor::proofs::LoopLemmas::series_done), unfolding(mp_cursor::specs::Parsers::expect, mp_cursor::specs::Parsers::repeated_series, crate::specs::Statements::further_arm))]
 fn further_arms(
     alloc: Global,
     tokens: &mut Cursor<'_>,
@@ -92,10 +90,9 @@ fn further_arms(
 {
     let mut found = first;
     'arms: for _turn in 0..tokens.left() {
-        if !tokens.sees(Next::Symbol(Symbol::Semicolon)) {
+        if !tokens.takes(Next::Symbol(Symbol::Semicolon)) {
             return Ok(found);
         }
-        tokens.expect(Next::Symbol(Symbol::Semicolon))?;
         if !begins_constant(tokens.next()) {
             return Ok(found);
         }

@@ -97,7 +97,7 @@ fn formal(alloc: Global, tokens: &mut Cursor<'_>, room: usize) -> Result<FormalS
 }
 
 #[cycle(formals)]
-#[tactic(auto, using(mp_cursor::proofs::LoopLemmas::loop_more, mp_cursor::proofs::LoopLemmas::loop_done), unfolding(mp_cursor::specs::Parsers::repeated, crate::specs::Headings::further_formal))]
+#[tactic(auto, using(mp_cursor::proofs::LoopLemmas::loop_more, mp_cursor::proofs::LoopLemmas::loop_done), unfolding(mp_cursor::specs::Parsers::expect, mp_cursor::specs::Parsers::repeated, crate::specs::Headings::further_formal))]
 fn further_formals(
     alloc: Global,
     tokens: &mut Cursor<'_>,
@@ -108,10 +108,9 @@ fn further_formals(
 {
     let mut found = first;
     'sections: for _turn in 0..tokens.left() {
-        if !tokens.sees(Next::Symbol(Symbol::Semicolon)) {
+        if !tokens.takes(Next::Symbol(Symbol::Semicolon)) {
             return Ok(found);
         }
-        tokens.expect(Next::Symbol(Symbol::Semicolon))?;
         found.push(formal(alloc, tokens, room)?)?;
     }
     Ok(found)

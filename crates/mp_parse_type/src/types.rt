@@ -291,7 +291,7 @@ fn variant(alloc: Global, tokens: &mut Cursor<'_>, room: usize) -> Result<Varian
 }
 
 #[cycle(denoters)]
-#[tactic(auto, using(mp_cursor::proofs::LoopLemmas::series_more, mp_cursor::proofs::LoopLemmas::series_done), unfolding(mp_cursor::specs::Parsers::repeated_series, crate::specs::Types::further_variant))]
+#[tactic(auto, using(mp_cursor::proofs::LoopLemmas::series_more, mp_cursor::proofs::LoopLemmas::series_done), unfolding(mp_cursor::specs::Parsers::expect, mp_cursor::specs::Parsers::repeated_series, crate::specs::Types::further_variant))]
 fn further_variants(
     alloc: Global,
     tokens: &mut Cursor<'_>,
@@ -302,10 +302,9 @@ fn further_variants(
 {
     let mut found = first;
     'variants: for _turn in 0..tokens.left() {
-        if !tokens.sees(Next::Symbol(Symbol::Semicolon)) {
+        if !tokens.takes(Next::Symbol(Symbol::Semicolon)) {
             return Ok(found);
         }
-        tokens.expect(Next::Symbol(Symbol::Semicolon))?;
         if !begins_constant(tokens.next()) {
             return Ok(found);
         }
@@ -330,15 +329,14 @@ fn variants(
 }
 
 // The name of a tag field, where there is one, and the type of the tag.
-#[tactic(auto, unfolding(crate::specs::Types::tag))]
+#[tactic(auto, unfolding(mp_cursor::specs::Parsers::expect, crate::specs::Types::tag))]
 fn tag(tokens: &mut Cursor<'_>) -> Result<(Option<Identifier>, Identifier), Failure>
     ensures { Reads (spec.tag tokens.old) result tokens.new }
 {
     let name = tokens.identifier()?;
-    if !tokens.sees(Next::Symbol(Symbol::Colon)) {
+    if !tokens.takes(Next::Symbol(Symbol::Colon)) {
         return Ok((None, name));
     }
-    tokens.expect(Next::Symbol(Symbol::Colon))?;
     let of = tokens.identifier()?;
     Ok((Some(name), of))
 }
@@ -385,7 +383,7 @@ fn last_fields(
 
 // The sections behind the first ones, and the variant part.
 #[cycle(denoters)]
-#[tactic(auto, using(crate::proofs::LoopLemmas::last_more, crate::proofs::LoopLemmas::last_done), unfolding(crate::specs::Types::repeated_and_last, crate::specs::Types::further_section))]
+#[tactic(auto, using(crate::proofs::LoopLemmas::last_more, crate::proofs::LoopLemmas::last_done), unfolding(mp_cursor::specs::Parsers::expect, crate::specs::Types::repeated_and_last, crate::specs::Types::further_section))]
 fn further_fields(
     alloc: Global,
     tokens: &mut Cursor<'_>,
@@ -396,10 +394,9 @@ fn further_fields(
 {
     let mut found = first;
     'sections: for _turn in 0..tokens.left() {
-        if !tokens.sees(Next::Symbol(Symbol::Semicolon)) {
+        if !tokens.takes(Next::Symbol(Symbol::Semicolon)) {
             return Ok(Denoter::Fields(found, None));
         }
-        tokens.expect(Next::Symbol(Symbol::Semicolon))?;
         if !tokens.sees(Next::Identifier) {
             return last_fields(alloc, tokens, room, found);
         }
