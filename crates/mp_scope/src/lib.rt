@@ -2,5 +2,7 @@
 #![tactic(auto)]
 
 mod scope;
+mod tables;
 
 pub use scope::Scope;
+pub use tables::Tables;
