@@ -1,7 +1,7 @@
 ghost use Rattle.std.specs.Prelude.{IfOk, IsTrue};
 ghost use Rattle.mp_tables.specs.Asks as ask;
 ghost use Rattle.mp_tables.specs.Asks.{State, FollowsAsks};
-ghost use Rattle.mp_scope.specs.Standing.{seen_stands, shape_stands, heading_stands};
+ghost use Rattle.mp_tables.specs.Standing.{SeenStands, ShapeStands, HeadingStands};
 
 use mp_base::{Memory, Name, Path, Place};
 use mp_tables::{Heading, Seen, Shape, TypeId};
@@ -18,20 +18,20 @@ pub trait Scope {
     /// What a name is at a place (ISO 7185, 6.2.2).
     fn find(&mut self, name: &Name, place: &Place) -> Result<Seen, Memory>
         ensures answer { FollowsAsks (ask.find name.now place.now) (state self.old) (state self.new) result }
-        ensures stands { IfOk result (λ seen. IsTrue (seen_stands (state self.old).stands (state self.old).path_stands seen)) };
+        ensures stands { IfOk result (λ seen. SeenStands (state self.old).stands (state self.old).path_stands seen) };
 
     /// The shape of a type that stands.
     fn shape(&mut self, id: &TypeId) -> Result<Shape, Memory>
         requires { IsTrue ((state self.old).stands id.now) }
         ensures answer { FollowsAsks (ask.shape id.now) (state self.old) (state self.new) result }
-        ensures stands { IfOk result (λ shape. IsTrue (shape_stands (state self.old).stands (state self.old).path_stands shape)) };
+        ensures stands { IfOk result (λ shape. ShapeStands (state self.old).stands shape) };
 
     /// The parameters and the result of a block that stands: those of its forward heading, where it completes one. The
     /// program's block has none.
     fn heading(&mut self, path: &Path) -> Result<Heading, Memory>
         requires { IsTrue ((state self.old).path_stands path.now) }
         ensures answer { FollowsAsks (ask.heading path.now) (state self.old) (state self.new) result }
-        ensures stands { IfOk result (λ heading. IsTrue (heading_stands (state self.old).stands (state self.old).path_stands heading)) };
+        ensures stands { IfOk result (λ heading. HeadingStands (state self.old).stands heading) };
 
     /// Whether a function's block, or a block in it, assigns to the bare name of the function, by spelling. It is true
     /// of the program's block and of a procedure's.

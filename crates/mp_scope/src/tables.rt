@@ -1,11 +1,11 @@
-ghost use Rattle.std.specs.Prelude.{◌≡◌, [], ◌∷◌, ◌++◌, None, IsTrue, OnOk, OnErr};
+ghost use Rattle.std.specs.Prelude.{◌≡◌, [], ◌∷◌, ◌++◌, None, OnOk, OnErr};
 ghost use Rattle.std.specs.Option.{option_copied};
 ghost use Rattle.std.specs.Hash.{items_Alike};
 ghost use Rattle.std.specs.Cmp.Lexicographic.{pointwise, lists_equiv};
 ghost use Rattle.mp_base.specs.contracts.path.PathStepEq.TheImpl.Laws as same_step;
 ghost use Rattle.mp_base.specs.contracts.path.PathStepHash.TheImpl.Laws as hashed_step;
 ghost use Rattle.mp_tables.specs.Seen.{table_at};
-ghost use Rattle.mp_scope.specs.Standing.{Closed, stands_in};
+ghost use Rattle.mp_scope.specs.Kept.{Closed, StandsIn};
 
 use indexmap::{Equivalent, IndexMap};
 use mp_base::{Memory, Path, PathStep};
@@ -66,7 +66,7 @@ impl Tables {
     /// those that were added.
     pub fn add(&mut self, table: Table) -> Result<(), Memory>
         requires new { table_at self.old table.path ≡ None }
-        requires stands { IsTrue (stands_in (self.old ++ table ∷ []) table) }
+        requires stands { StandsIn (self.old ++ table ∷ []) table }
         ensures ok { OnOk result (self.new ≡ self.old ++ table ∷ []) }
         ensures err { OnErr result (self.new ≡ self.old) }
     {
