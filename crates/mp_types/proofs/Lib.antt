@@ -1,0 +1,2 @@
+pub mod CongruityLemmas
+pub mod RequiredLemmas
