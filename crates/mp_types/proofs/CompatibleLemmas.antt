@@ -28,7 +28,7 @@ same_bools true y f g = sym (f refl)
 same_bools false true f g = g refl
 same_bools false false f g = refl
 
-both_are : (x y : Bool) → x ≡ true → y ≡ true → (x && y) ≡ true
+pub both_are : (x y : Bool) → x ≡ true → y ≡ true → (x && y) ≡ true
 both_are x y e f = ap (λ z. z && y) e ∙ f
 
 first_is : (x y : Bool) → x ≡ true → (x || y) ≡ true
@@ -108,8 +108,8 @@ by_shapes i j (shape.Ptr x) (shape.Ptr y) e =
     let b : Typed = record { id = j; shape = shape.Ptr y } in
     either_true (same_identity a b || is_nil a) (is_nil b) e
     (λ f. either_true (same_identity a b) (is_nil a) f
-      (λ g. by_identity a b i j refl refl g)
-      (λ g. NilFirst (nil_is a i x refl refl g) (y, refl)))
+    (λ g. by_identity a b i j refl refl g)
+    (λ g. NilFirst (nil_is a i x refl refl g) (y, refl)))
     (λ f. NilSecond (x, refl) (nil_is b j y refl refl f))
 by_shapes i j s t e =
     let a : Typed = record { id = i; shape = s } in
@@ -210,3 +210,56 @@ no_form e = absurd cc
 
 some_form : {A : Type 0} {n : ℕ} → OfSomeLength ≡ OfLength n → A
 some_form e = absurd cc
+
+module _ (a : ArrayShape) (n : ℕ) where
+  by_high : (b : Bounds) (z : ℤ) → a.packed ≡ true → a.index ≡ Some (record b { high = z }) → a.component ≡ Some type.Char → type.Integer ≡ b.host → b.low ≡ pos 1 → int_lt (pos 1) z ≡ true → nat_abs z ≡ n → IsStringType (shape.Arr a) n
+  by_high b (negsuc k) p i c h l g e = false_true g
+  by_high b (pos k) p i c h l g e =
+      PackedArray a n p
+      (i ∙ ap (λ t. Some (record { host = t; low = b.low; high = pos k })) (sym h) ∙ ap (λ z. Some (record { host = type.Integer; low = z; high = pos k })) l ∙ ap (λ m. Some (record { host = type.Integer; low = pos 1; high = pos m })) e)
+      (omega (arith, ltb-true 1 k g, e)) c
+
+  by_index : (b : Bounds) (c : TypeId) (t : Bool) → (is_string_index b && same type.Char c) ≡ t → a.packed ≡ true → a.index ≡ Some b → a.component ≡ Some c → cond t (OfLength (nat_abs b.high)) NoString ≡ OfLength n → IsStringType (shape.Arr a) n
+  by_index b c false k p i j e = no_form e
+  by_index b c true k p i j e =
+      let u = both_true (is_string_index b) (same type.Char c) k in
+      let v = both_true (same type.Integer b.host && int_eq b.low (pos 1)) (int_lt (pos 1) b.high) u.0 in
+      let w = both_true (same type.Integer b.host) (int_eq b.low (pos 1)) v.0 in
+      by_high b b.high p i (j ∙ ap Some (sym (same-eq type.Char c u.1))) (same-eq type.Integer b.host w.0) ((Decides-int_eq b.low (pos 1)).0 w.1) v.1 (form_length e)
+
+  by_parts : (i : Option Bounds) (j : Option TypeId) → a.index ≡ i → a.component ≡ j → a.packed ≡ true → string_by i j ≡ OfLength n → IsStringType (shape.Arr a) n
+  by_parts None None p q k e = some_form e
+  by_parts None (Some c) p q k e = without_index (same type.Char c) e
+    where
+      without_index : (t : Bool) → cond t OfSomeLength NoString ≡ OfLength n → IsStringType (shape.Arr a) n
+      without_index true e = some_form e
+      without_index false e = no_form e
+  by_parts (Some b) None p q k e = without_component (is_string_index b) e
+    where
+      without_component : (t : Bool) → cond t OfSomeLength NoString ≡ OfLength n → IsStringType (shape.Arr a) n
+      without_component true e = some_form e
+      without_component false e = no_form e
+  by_parts (Some b) (Some c) p q k e = by_index b c (is_string_index b && same type.Char c) refl k p q e
+
+  by_packed : (t : Bool) → a.packed ≡ t → cond t (string_by a.index a.component) NoString ≡ OfLength n → IsStringType (shape.Arr a) n
+  by_packed true p e = by_parts a.index a.component refl refl p e
+  by_packed false p e = no_form e
+
+string-is : (s : Shape) (n : ℕ) → string_form s ≡ OfLength n → IsStringType s n
+string-is (shape.Str m) n e = subst (λ k. IsStringType (shape.Str m) k) (form_length e) (CharacterString m)
+string-is (shape.Arr a) n e = by_packed a n a.packed refl e
+string-is s n e = no_form e
+
+is-string : (s : Shape) (n : ℕ) → IsStringType s n → string_form s ≡ OfLength n
+is-string s n (CharacterString m) = refl
+is-string s n (PackedArray a m p i h c) =
+    ap (λ t. cond t (string_by a.index a.component) NoString) p
+    ∙ ap (λ x. string_by x a.component) i
+    ∙ ap (λ x. string_by (Some (record { host = type.Integer; low = pos 1; high = pos m })) x) c
+    ∙ ap (λ t. cond (t && true) (OfLength m) NoString) (lt-ltb 1 m h)
+
+pub string_types : (s : Shape) (n : ℕ) → (string_form s ≡ OfLength n) ↔ IsStringType s n
+string_types s n = (string-is s n, is-string s n)
+
+pub one_identity : (a b : TypeId) → (same a b ≡ true) ↔ (a ≡ b)
+one_identity a b = (same-eq a b, same-is a b)

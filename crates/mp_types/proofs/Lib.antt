@@ -1,2 +1,3 @@
+pub mod CompatibleLemmas
 pub mod CongruityLemmas
 pub mod RequiredLemmas

@@ -19,9 +19,9 @@ Agree {A} o p = (x y : A) → o ≡ Some x → p ≡ Some y → x ≡ y
 pub data IsStringType : Shape → ℕ → Type 0 where
   CharacterString : (n : ℕ) → IsStringType (shape.Str n) n
   PackedArray :
-    (a : ArrayShape) (n : ℕ) →
-    a.packed ≡ true → a.index ≡ Some (record { host = type.Integer; low = pos 1; high = pos n }) → 1 < n → a.component ≡ Some type.Char →
-    IsStringType (shape.Arr a) n
+      (a : ArrayShape) (n : ℕ) →
+      a.packed ≡ true → a.index ≡ Some (record { host = type.Integer; low = pos 1; high = pos n }) → 1 < n → a.component ≡ Some type.Char →
+      IsStringType (shape.Arr a) n
 
 -- a string of this length, or a type that may be one, since a part of it is missing
 abbrev pub MayHaveLength : StringForm → ℕ → Type 0
@@ -48,9 +48,9 @@ pub data IsCompatible (a b : Typed) : Type 0 where
   SameHost : (x y : Bounds) → ordinal a ≡ Some x → ordinal b ≡ Some y → x.host ≡ y.host → IsCompatible a b
   -- set types over such ordinal types, both packed or both not
   SetsAlike :
-    (p q : Option Bool) (x y : Option Bounds) →
-    a.shape ≡ shape.SetOf p x → b.shape ≡ shape.SetOf q y → Agree p q → Agree (host_of x) (host_of y) →
-    IsCompatible a b
+      (p q : Option Bool) (x y : Option Bounds) →
+      a.shape ≡ shape.SetOf p x → b.shape ≡ shape.SetOf q y → Agree p q → Agree (host_of x) (host_of y) →
+      IsCompatible a b
   -- `nil` and a pointer type
   NilFirst : IsNil a → IsPointer b → IsCompatible a b
   NilSecond : IsPointer a → IsNil b → IsCompatible a b

@@ -1,8 +1,8 @@
 ghost use Rattle.std.specs.Prelude.{◌≡◌, ◌||◌};
 ghost use Rattle.mp_tables.specs.TypeRelations as relation;
 
-use crate::ordinals::share_host;
 use crate::identities::{same, same_identity};
+use crate::ordinals::share_host;
 use crate::strings::{equal_length, string_form};
 use mp_tables::{Bounds, Shape, Typed};
 

@@ -9,7 +9,9 @@
 
 mod compatibility;
 mod congruity;
+pub mod examples;
 mod identities;
+pub mod laws;
 mod ordinals;
 mod required;
 mod strings;

@@ -1,10 +1,11 @@
-ghost use Rattle.std.specs.Prelude.{◌≡◌};
+ghost use Rattle.std.specs.Prelude.{◌≡◌, length};
 ghost use Rattle.std.specs.Option.{option_map};
 ghost use Rattle.mp_tables.specs.TypeRelations as relation;
 ghost use Rattle.mp_types.specs.Values.{bounds_of};
 
 use crate::identities::same;
-use mp_tables::{Shape, TypeId, Typed};
+use mp_base::Name;
+use mp_tables::{Shape, Shared, TypeId, Typed};
 
 /// The values of an ordinal type (ISO 7185, 6.4.2): its host type, which is lent, and the ordinal numbers of the least
 /// and the greatest value.
@@ -15,15 +16,15 @@ pub struct Values<'a> {
     pub high: i64,
 }
 
-// The values of an enumeration of so many constants.
-fn named<'a>(id: &'a Option<TypeId>, constants: usize) -> Option<Values<'a>>
-    ensures { option_map bounds_of result ≡ relation.names_bounds id.now constants }
+// The values of an enumeration with these constants.
+fn named<'a>(id: &'a Option<TypeId>, constants: &Shared<Name>) -> Option<Values<'a>>
+    ensures { option_map bounds_of result ≡ relation.names_bounds id.now (length constants.now) }
 {
     match id {
         Some(host) => Some(Values {
             host,
             low: 0,
-            high: constants.saturating_sub(1) as i64,
+            high: constants.len().saturating_sub(1) as i64,
         }),
         None => None,
     }
@@ -39,7 +40,7 @@ pub fn ordinal<'a>(t: &'a Typed) -> Option<Values<'a>>
             low: bounds.low,
             high: bounds.high,
         }),
-        Shape::Names(names) => named(&t.id, names.len()),
+        Shape::Names(names) => named(&t.id, names),
         Shape::Arr(_) => None,
         Shape::Rec(_) => None,
         Shape::SetOf(_, _) => None,

@@ -52,8 +52,10 @@ static REQUIRED_NAMES: [(&str, Required); 38] = [
 ];
 
 // The files that a program has where its heading names them.
-static STANDARD_FILES: [(&str, Required); 2] =
-    [("input", Required::Input), ("output", Required::Output)];
+static STANDARD_FILES: [(&str, Required); 2] = [
+    ("input", Required::Input),
+    ("output", Required::Output),
+];
 
 // The first of these rows that has the name.
 fn find_row<'a>(
