@@ -48,3 +48,8 @@ pub mod LeavesOfBlocks
 pub mod LeavesPlaced
 pub mod LeavesLaws
 pub mod PlaceLemmas
+pub mod DescentLemmas
+pub mod NestedLemmas
+pub mod WalkLemmas
+pub mod CountLemmas
+pub mod TurnLemmas

@@ -162,7 +162,7 @@ paths_differ tree = from_distinct [] 0 tree
 
 -- ---- the block with a path
 
-same_path_itself : (path : List PathStep) → same_path path path ≡ true
+pub same_path_itself : (path : List PathStep) → same_path path path ≡ true
 same_path_itself [] = refl
 same_path_itself (s ∷ path) =
     ap (λ x. (x && nat_eq s.nth s.nth) && same_path path path) (same_bytes s.name) ∙

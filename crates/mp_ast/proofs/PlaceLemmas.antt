@@ -42,7 +42,7 @@ and_right false c e = absurd (false≢true e)
 
 -- ---- paths
 
-step_equal : (s t : PathStep) → same_step s t ≡ true → s ≡ t
+pub step_equal : (s t : PathStep) → same_step s t ≡ true → s ≡ t
 step_equal s t e =
     let name = (bytes_eq-Decides s.name t.name).0 (and_left (bytes_eq s.name t.name) (nat_eq s.nth t.nth) e) in
     let nth = eqb-true s.nth t.nth (and_right (bytes_eq s.name t.name) (nat_eq s.nth t.nth) e) in

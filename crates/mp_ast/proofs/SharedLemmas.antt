@@ -1,5 +1,5 @@
 -- What a tree that is kept whole has in all: what its block has, and what the trees in it have, one after another.
-use Rattle.std.proofs.Common.{◌≡◌, ℕ, ◌+◌, ◌<◌, List, [], ◌∷◌, length, drop, get_or, refl, sym, ap, ◌∙◌, subst, arith}
+use Rattle.std.proofs.Common.{◌≡◌, ℕ, zero, suc, ◌+◌, ◌<◌, ◌≤◌, List, [], ◌∷◌, map, length, drop, get_or, refl, sym, ap, ◌∙◌, subst, arith}
 use Rattle.std.proofs.lemmas.List.{length-map, drop_more}
 use Rattle.mp_ast.specs.declared.blocks.Block.{Block}
 use Rattle.mp_ast.specs.declared.blocks.Tree.{Tree}
@@ -9,6 +9,7 @@ use Rattle.mp_ast.specs.PlainTrees.{TreeOf, plain_declaration, plain_block, tree
 use Rattle.mp_ast.specs.Blocks.{tokens_of, tokens_of_all}
 use Rattle.mp_ast.specs.WholeTrees.{IsWhole}
 use Rattle.mp_ast.specs.SharedTrees.{IsOfAProgram, node, own_of, inside_of, declarations_of, declarations_of_all}
+use Rattle.mp_ast.specs.TreeSizes.{total, size_of, size_of-roll}
 use Rattle.mp_ast.proofs.PlainTreeLemmas.{plain_tree-roll}
 
 -- ---- the parts of a tree
@@ -62,3 +63,16 @@ few-declarations t p =
     let n = length-map (own_of t).declarations plain_declaration in
     let f = p.few in
     omega (arith, e, n, f)
+
+-- ---- each part is smaller than the whole
+
+part_of_total : (l : List Tree) (i : ℕ) (u : Tree) (behind : List Tree) → drop i l ≡ u ∷ behind → size_of u ≤ total (map size_of l)
+part_of_total l zero u behind e = let n = ap (λ l. total (map size_of l)) e in omega (arith, n)
+part_of_total [] (suc i) u behind e = let n = ap length e in absurd (omega (arith, n))
+part_of_total (t ∷ l) (suc i) u behind e = let rest = part_of_total l i u behind e in omega (arith, rest)
+
+pub part_is_smaller : (t : Tree) (i : ℕ) (u : Tree) (behind : List Tree) → drop i (inside_of t) ≡ u ∷ behind → size_of u < size_of t
+part_is_smaller t i u behind e =
+    let part = part_of_total (inside_of t) i u behind e in
+    let whole = ap size_of (sym (node-parts t)) ∙ size_of-roll (own_of t) (inside_of t) in
+    omega (arith, part, whole)

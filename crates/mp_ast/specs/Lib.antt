@@ -27,3 +27,5 @@ pub mod LeavesExample
 pub mod BlocksExample
 pub mod Examples
 pub mod ProductionExamples
+pub mod Descent
+pub mod BlockLists

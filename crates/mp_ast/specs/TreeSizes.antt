@@ -6,7 +6,7 @@ use Rattle.mp_ast.specs.declared.blocks.Block.{Block}
 use Rattle.mp_ast.specs.declared.blocks.Tree.{Tree, roll-Tree, fold-Tree, fold-roll-Tree}
 use Rattle.mp_ast.specs.declared.blocks.Tree.TheOpen.{Tree-F}
 
-abbrev total : List ℕ → ℕ
+abbrev pub total : List ℕ → ℕ
 total [] = 0
 total (n ∷ l) = n + total l
 
@@ -20,7 +20,7 @@ same_total : (h : Tree → ℕ) → ((t : Tree) → h t ≡ size_of t) → (l : 
 same_total h each [] = refl
 same_total h each (t ∷ l) = ap (λ n. n + total (map h l)) (each t) ∙ ap (λ n. size_of t + n) (same_total h each l)
 
-size_of-roll : (own : Block) (inside : List Tree) → size_of (roll-Tree (record { own = own; inside = inside })) ≡ 1 + total (map size_of inside)
+pub size_of-roll : (own : Block) (inside : List Tree) → size_of (roll-Tree (record { own = own; inside = inside })) ≡ 1 + total (map size_of inside)
 unfolding size_of
 size_of-roll own inside =
     fold-roll-Tree ℕ size_layer (record { own = own; inside = inside }) ∙ ap (λ s. 1 + s) (same_total _ (λ _. refl) inside)

@@ -7,14 +7,16 @@
 //! part, and what no program has although a tree's type allows it. It is data alone: it never lexes, parses or prints.
 //! It promises how each word-symbol is written, that its lists are lists, that a block's own tree has at most 262,144
 //! tokens, that a tree which is kept whole knows how many tokens and declarations it has in all, whatever it shares,
-//! which token a part of a tree begins with, and that two own trees, or two parts of one kind, are told to be the same
-//! exactly where they are; and of its definitions (`laws`), that nothing of a tree is lost in plain data, that each
+//! which blocks such a tree has, at which index and at which line and column a place of it stands, which token a part of a
+//! tree begins with, and that two own trees, or two parts of one kind, are told to be the same exactly where they are; and
+//! of its definitions (`laws`), that nothing of a tree is lost in plain data, that each
 //! block has a path of its own, that each token of a program is an own token of exactly one block, that its tree has
 //! the declarations that the grammar counts, that each part of a program begins at its first token, and that each block
 //! of a program is well-formed; and (`ordinal_laws`) that each token which a tree tells of stands where the tree says.
 //! `examples` has each production of the grammar once. It stands on `mp_base`.
 #![tactic(auto)]
 
+mod block_list;
 mod blocks;
 mod equality;
 mod errors;
@@ -24,7 +26,9 @@ mod headings;
 pub mod laws;
 mod leaves;
 mod lexed;
+mod nested;
 pub mod ordinal_laws;
+mod places;
 mod shared;
 mod statements;
 mod symbols;
@@ -32,6 +36,7 @@ mod tokens;
 mod types;
 mod words;
 
+pub use block_list::PlacedBlock;
 pub use blocks::{
     Block, BlockTree, ConstantDefinition, Declaration, DeclaredBody, ProgramHeading, StatementPart,
     Tree, TypeDefinition,

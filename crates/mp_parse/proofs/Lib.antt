@@ -2,6 +2,7 @@ pub mod DepthLemmas
 pub mod PartLaws
 pub mod DeclarationLaws
 pub mod ProgramLemmas
+pub mod WithinLemmas
 pub mod Raised
 pub mod RaisedExpressions
 pub mod RaisedTypes

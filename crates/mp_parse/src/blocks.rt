@@ -1,11 +1,11 @@
-ghost use Rattle.std.specs.Prelude.{◌≡◌, ◌<◌, ◌≤◌, [], ◌∷◌, IfOk};
+ghost use Rattle.std.specs.Prelude.{◌≡◌, ◌+◌, ◌<◌, ◌≤◌, [], ◌∷◌, IfOk, length};
 ghost use Rattle.mp_ast.specs.Programs.{standard};
 ghost use Rattle.mp_cursor.specs.Parsers.{Reads};
 ghost use Rattle.mp_parse.specs.Blocks as spec;
 
 use crate::parts::{constants, labels, statement_part, types, variables};
 use mp_ast::{
-    Block, BlockTree, Declaration, DeclaredBody, Identifier, ProgramHeading, Symbol, Tree,
+    Block, BlockTree, Declaration, DeclaredBody, Identifier, ProgramHeading, SharedTree, Symbol,
     WordSymbol,
 };
 use mp_base::{DEPTH_LIMIT, OPENER_LIMIT, TEXT_LIMIT};
@@ -20,13 +20,13 @@ use std::alloc::Global;
 const DEPTH: usize = DEPTH_LIMIT - 1;
 
 // The declarations that a block has so far, and the trees of their blocks.
-type Found = (Items<Declaration>, Items<Tree>);
+type Found = (Items<Declaration>, Items<SharedTree>);
 
 // A declaration, with the tree of its block, where it has one.
-type Declared = (Declaration, Items<Tree>);
+type Declared = (Declaration, Items<SharedTree>);
 
 // What follows a heading, with the tree of the block where it is one.
-type Body = (DeclaredBody, Items<Tree>);
+type Body = (DeclaredBody, Items<SharedTree>);
 
 #[tactic(auto, unfolding(crate::specs::Blocks::forward_directive))]
 fn forward_directive(alloc: Global, tokens: &mut Cursor<'_>) -> Result<Body, Failure>
@@ -129,7 +129,7 @@ fn block(
     tokens: &mut Cursor<'_>,
     program: Option<ProgramHeading>,
     depth: usize,
-) -> Result<(Block, Items<Tree>), Failure>
+) -> Result<(Block, Items<SharedTree>), Failure>
     ensures reads { Reads (spec.block standard program depth tokens.old) result tokens.new }
     ensures small { IfOk result (λ b. b.0.tokens ≤ TEXT_LIMIT) }
 {
@@ -158,17 +158,15 @@ fn block(
 // A block of its own ordinals.
 #[cycle(blocks)]
 #[tactic(auto, using(crate::proofs::DepthLemmas::nested_is), unfolding(mp_cursor::specs::Parsers::with_own_ordinals))]
-fn nested_block(alloc: Global, tokens: &mut Cursor<'_>, depth: usize) -> Result<Tree, Failure>
+fn nested_block(alloc: Global, tokens: &mut Cursor<'_>, depth: usize) -> Result<SharedTree, Failure>
     requires { 0 < depth }
     ensures { Reads (spec.nested_block standard depth tokens.old) result tokens.new }
 {
     let at = tokens.restart();
     let (own, inside) = block(alloc, tokens, None, depth - 1)?;
     tokens.resume(at);
-    Ok(Tree {
-        own: BlockTree::new(alloc, own)?,
-        inside,
-    })
+    let own = BlockTree::new(alloc, own)?;
+    Ok(SharedTree::new(alloc, own, inside)?)
 }
 
 // ---- programs
@@ -206,7 +204,8 @@ fn program_heading(alloc: Global, tokens: &mut Cursor<'_>) -> Result<ProgramHead
 
 /// A program (ISO 7185, 6.10), whose tokens others may follow.
 #[tactic(auto, unfolding(crate::specs::Blocks::program))]
-pub fn program(alloc: Global, tokens: &mut Cursor<'_>) -> Result<Tree, Failure>
+pub fn program(alloc: Global, tokens: &mut Cursor<'_>) -> Result<SharedTree, Failure>
+    requires { tokens.old.at + length tokens.old.rest ≤ TEXT_LIMIT }
     ensures { Reads (spec.program standard tokens.old) result tokens.new }
 {
     let heading = program_heading(alloc, tokens)?;
@@ -215,8 +214,6 @@ pub fn program(alloc: Global, tokens: &mut Cursor<'_>) -> Result<Tree, Failure>
     tokens.expect(Next::Symbol(Symbol::Dot))?;
     let mut own = own.into_inner();
     own.tokens = tokens.at();
-    Ok(Tree {
-        own: BlockTree::new(alloc, own)?,
-        inside,
-    })
+    let own = BlockTree::new(alloc, own)?;
+    Ok(SharedTree::new(alloc, own, inside)?)
 }

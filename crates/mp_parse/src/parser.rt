@@ -7,7 +7,7 @@ ghost use Rattle.mp_parse.specs.declared.errors.ParseError.TheVariants as error;
 
 use crate::blocks::program;
 use crate::errors::ParseError;
-use mp_ast::{Lexed, Tree};
+use mp_ast::{Lexed, SharedTree};
 use mp_base::TEXT_LIMIT;
 use mp_cursor::{Cursor, Failure};
 use std::alloc::Global;
@@ -36,7 +36,7 @@ fn error_of(failure: Failure, count: usize) -> ParseError
 /// tokens stands for the end. Its code is 202 at the end, and 205 behind a whole program; 204 where a program without the
 /// limit on declarations begins with the tokens up to that one, and 203 where only one without the limits on openers and
 /// depth as well does; 201 otherwise.
-pub fn parse(alloc: Global, lexed: &Lexed) -> Result<Tree, ParseError>
+pub fn parse(alloc: Global, lexed: &Lexed) -> Result<SharedTree, ParseError>
     requires { length lexed.now.tokens ≤ TEXT_LIMIT }
     ensures tree { IfOk result (λ t. Derives standard (kinds_of lexed.now.tokens) t) }
     ensures error { IfErr result (λ e. NamesFirstError (kinds_of lexed.now.tokens) e) }

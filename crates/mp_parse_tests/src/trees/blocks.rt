@@ -3,7 +3,7 @@ use crate::trees::leaves::{constant, identifier, identifiers, number};
 use crate::trees::statements::statements;
 use crate::trees::types::{denoter, section};
 use crate::trees::written::{Outcome, Written};
-use mp_ast::{Block, Declaration, DeclaredBody, StatementPart, Tree};
+use mp_ast::{Block, Declaration, DeclaredBody, SharedTree, StatementPart};
 
 fn program(out: &mut Written, x: &Block) -> Outcome {
     if let Some(heading) = &x.program {
@@ -92,13 +92,13 @@ fn block(out: &mut Written, x: &Block) -> Outcome {
 
 /// A line for the block's own tree, and behind it one for each block in it, in order of text. Before a block of depth
 /// n stand n - 1 dots.
-pub fn tree(out: &mut Written, x: &Tree, dots: usize) -> Outcome {
+pub fn tree(out: &mut Written, x: &SharedTree, dots: usize) -> Outcome {
     for _ in 0..dots {
         out.add(b". ")?;
     }
-    block(out, x.own.get())?;
+    block(out, x.own().get())?;
     out.add(b"\n")?;
-    for x in x.inside.as_slice() {
+    for x in x.inside() {
         tree(out, x, dots.saturating_add(1))?;
     }
     Ok(())
