@@ -105,6 +105,17 @@ def joined(s):
             s.delete(1, 2)
 
 
+def two_bytes(s):
+    """A number ends two bytes before its fraction or exponent does; the last byte comes, and goes."""
+    for head in ("", "a ", "{ } "):
+        for front in ("1.", "12.", "1e+", "1e-", "1.5e+", "1..", "x1.", "'a'", "(*", "1e"):
+            for piece in ("5", "e", ".", "'", "+", ")"):
+                s.insert(0, [head + front, " end"])
+                s.sub(1, len(head + front) + 1, 0, piece)
+                s.sub(1, len(head + front) + 1, 1, "")
+                s.delete(1, 2)
+
+
 def scattered(s, count):
     """Edits anywhere, of which some are out of range."""
     for _ in range(count):
@@ -153,8 +164,9 @@ def main():
     s = Script()
     row(s)
     ends(s)
+    two_bytes(s)
     joined(s)
-    scattered(s, 1_500)
+    scattered(s, 1_000)
     whole(s)
     answers = [*s.answers, f"edits {s.edits}", f"refused {s.refused}", "differ 0"]
     assert len(s.versions) <= 4_096
