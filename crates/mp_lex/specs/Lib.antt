@@ -7,4 +7,6 @@ pub mod Meaning
 pub mod Lexed
 pub mod Order
 pub mod Lengths
+pub mod Relexing
+pub mod Windows
 pub mod FirstLetters

@@ -33,7 +33,7 @@ lines_change m n lines text l =
     bytes_of-append (take m text) (lines ++ drop n text) ∙ ap (λ r. bytes_of (take m text) ++ r) (bytes_of-append lines (drop n text))
     ∙ sym (ap (λ k. take (size_to m text) (bytes_of text) ++ (bytes_of lines ++ drop k (bytes_of text))) sum
     ∙ ap (λ f. f ++ (bytes_of lines ++ drop (size_to n text) (bytes_of text))) (front_bytes m text) ∙ ap (λ b. bytes_of (take m text) ++ (bytes_of lines ++ b))
-        (back_bytes n text))
+    (back_bytes n text))
 
 pub one_line : (line : List ℕ) (text : List (List ℕ)) → bytes_of (line ∷ text) ≡ line ++ (10 ∷ bytes_of text)
 unfolding bytes_of
@@ -50,18 +50,18 @@ behind : (front line new back : List ℕ) (start removed : ℕ) → start + remo
 behind front line new back start removed l =
     let sum : length front + start + removed ≡ length front + (start + removed) = omega arith in
     let left : take (length front + start) (front ++ (line ++ back)) ≡ front ++ take start line = take-append-add front (line ++ back) start
-        ∙ ap (λ t. front ++ t) (take-append-le start line back (omega arith)) in
+    ∙ ap (λ t. front ++ t) (take-append-le start line back (omega arith)) in
     let right : drop (length front + start + removed) (front ++ (line ++ back)) ≡ drop (start + removed) line ++ back =
     ap (λ k. drop k (front ++ (line ++ back))) sum ∙ sym (drop-drop (start + removed) (length front) (front ++ (line ++ back)))
-        ∙ ap (drop (start + removed)) (drop-append_seam front (line ++ back)) ∙ drop-append-le (start + removed) line back l in
+    ∙ ap (drop (start + removed)) (drop-append_seam front (line ++ back)) ∙ drop-append-le (start + removed) line back l in
     ap (λ t. front ++ t) (append_assoc (take start line) (new ++ drop (start + removed) line) back
-        ∙ ap (λ t. take start line ++ t) (append_assoc new (drop (start + removed) line) back))
+    ∙ ap (λ t. take start line ++ t) (append_assoc new (drop (start + removed) line) back))
     ∙ sym (append_assoc front (take start line) (new ++ (drop (start + removed) line ++ back)))
     ∙ sym (ap (λ f. f ++ (new ++ drop (length front + start + removed) (front ++ (line ++ back)))) left ∙ ap (λ b. (front ++ take start line) ++ (new ++ b)) right)
 
 sub_change : (line column count : ℕ) (bytes : List ℕ) (text : List (List ℕ)) → 1 ≤ line → line ≤ length text → 1 ≤ column → column + count ≤ length (line_at text line) + 1
     → bytes_of (take (line - 1) text ++ (substituted column count bytes (line_at text line) ∷ [] ++ drop line text))
-        ≡ spliced (size_to (line - 1) text + (column - 1)) count bytes (bytes_of text)
+    ≡ spliced (size_to (line - 1) text + (column - 1)) count bytes (bytes_of text)
 sub_change line column count bytes text a b c d =
     let front = bytes_of (take (line - 1) text) in
     let old = line_at text line in
@@ -85,16 +85,22 @@ pub byte_change : (e : Edit) (text : List (List ℕ)) → IsInRange e text → I
 unfolding edited change_start change_removed change_bytes bytes_of
 byte_change (edit.Insert after lines) text h =
     let none : size_to after text - size_to after text ≡ 0 = omega arith in
-    record { within = omega (arith, size_all after text); bytes = lines_change after after lines text (omega arith)
-        ∙ ap (λ k. spliced (size_to after text) k (bytes_of lines) (bytes_of text)) none }
+    record {
+      within = omega (arith, size_all after text);
+      bytes = lines_change after after lines text (omega arith)
+          ∙ ap (λ k. spliced (size_to after text) k (bytes_of lines) (bytes_of text)) none;
+    }
 byte_change (edit.Delete first last) text h =
     let a = h.0 in let b = h.1 in
     record { within = omega (arith, size_up (first - 1) last text (omega arith), size_all last text); bytes = lines_change (first - 1) last [] text (omega arith) }
 byte_change (edit.Replace first last lines) text h =
     let a = h.0 in let b = h.1 in
     record { within = omega (arith, size_up (first - 1) last text (omega arith), size_all last text); bytes = lines_change (first - 1) last lines text (omega arith) }
-byte_change (edit.Sub line column count bytes) text h = record { within = sub_within line column count text h.0 h.1 h.2 h.3; bytes =
-    sub_change line column count bytes text h.0 h.1 h.2 h.3 }
+byte_change (edit.Sub line column count bytes) text h = record {
+  within = sub_within line column count text h.0 h.1 h.2 h.3;
+  bytes =
+      sub_change line column count bytes text h.0 h.1 h.2 h.3;
+}
 
 pub splices_lines : (e : Edit) (text : List (List ℕ)) → SplicesLines e text
 splices_lines e text h lines = ap lines_of (sym (byte_change e text h).bytes) ∙ lines_of-bytes_of (edited e text) lines

@@ -178,9 +178,10 @@ made_sub line column count bytes text h =
     let new = substituted column count bytes (line_at text line) in
     let made = take (line - 1) text ++ (new ∷ [] ++ drop line text) in
     let put = made_replaced line line (new ∷ []) text (sub_ranges line text h.0 h.1) in
-    let is = sub_line line new text made h.0 put in
-    (subst (ArePut 0 column (column + count - 1) bytes (line_at text line)) (sym is) (made_bytes column count bytes (line_at text line) h.2 h.3),
-        subst (λ l. ArePut [] line line (l ∷ []) text made) (sym is) put)
+    let is = sub_line line new text made h.0 put in (
+      subst (ArePut 0 column (column + count - 1) bytes (line_at text line)) (sym is) (made_bytes column count bytes (line_at text line) h.2 h.3),
+      subst (λ l. ArePut [] line line (l ∷ []) text made) (sym is) put,
+    )
 
 only_sub : (line column count : ℕ) (bytes : List ℕ) (text : List (List ℕ)) → IsInRange (edit.Sub line column count bytes) text
     → (other : List (List ℕ)) → IsMade (edit.Sub line column count bytes) text other → other ≡ edited (edit.Sub line column count bytes) text
@@ -191,7 +192,7 @@ only_sub line column count bytes text h other k =
     let low : 1 ≤ column = h.2 in
     let high : column + count ≤ length old + 1 = h.3 in
     let is = one_made 0 column (column + count - 1) bytes old (line_at other line) new k.0 (made_bytes column count bytes old low high) low
-        (omega (arith, low)) (omega (arith, low, high)) in
+    (omega (arith, low)) (omega (arith, low, high)) in
     let put = subst (λ l. ArePut [] line line (l ∷ []) text other) is k.1 in
     one_made [] line line (new ∷ []) text other _ put (made_replaced line line (new ∷ []) text (sub_ranges line text h.0 h.1)) h.0 (omega arith) h.1
 
@@ -254,9 +255,15 @@ no_size = refl
 
 pub sized : (e : Edit) (text : List (List ℕ)) → IsInRange e text → HasItsSize e text (edited e text)
 unfolding edited
-sized (edit.Insert after lines) text h =
-    (omega (arith, (made_insert after lines text h).count), omega (arith, size_append (take after text) (lines ++ drop after text),
-        size_append lines (drop after text), size_parts after text))
+sized (edit.Insert after lines) text h = (
+  omega (arith, (made_insert after lines text h).count),
+  omega (
+    arith,
+    size_append (take after text) (lines ++ drop after text),
+    size_append lines (drop after text),
+    size_parts after text,
+  ),
+)
 sized (edit.Delete first last) text h =
     let none : size [] ≡ 0 = no_size in
     (omega (arith, counted_lines first last [] text h), omega (arith, sized_lines first last [] text h, none))

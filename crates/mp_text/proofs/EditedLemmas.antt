@@ -36,7 +36,7 @@ short_front [] ys n h = let e : n ≡ n + 0 = omega arith in ap (λ k. position_
 short_front (x ∷ xs) ys n h =
     let e : n + 1 + length xs ≡ n + length (x ∷ xs) = omega arith in
     ap (λ v. cond v (Some n) (position_from is_long (n + 1) (xs ++ ys))) (not_long x (h zero [] (omega arith))) ∙ short_front xs ys (n + 1) (rest_short x xs h)
-        ∙ ap (λ k. position_from is_long k ys) e
+    ∙ ap (λ k. position_from is_long k ys) e
 
 short_back : (xs ys : List (List ℕ)) (n : ℕ) → AreShort ys → position_from is_long n (xs ++ ys) ≡ position_from is_long n xs
 short_back [] ys n h = none_short ys n h
@@ -54,7 +54,7 @@ long_made : (a b : ℕ) (lines text : List (List ℕ)) → AreShort text → a �
 long_made a b lines text h l =
     let e : 1 + length (take a text) ≡ a + 1 = omega (arith, length-take a text) in
     short_front (take a text) (lines ++ drop b text) 1 (short_take text a h) ∙ ap (λ k. position_from is_long k (lines ++ drop b text)) e
-        ∙ short_back lines (drop b text) (a + 1) (short_drop text b h)
+    ∙ short_back lines (drop b text) (a + 1) (short_drop text b h)
 
 pub long_insert : (after : ℕ) (lines text : List (List ℕ)) → IsText text → after ≤ length text →
     position_from is_long (after + 1) lines ≡ position_from is_long 1 (edited (edit.Insert after lines) text)

@@ -179,9 +179,14 @@ pub take_within : (pieces : List Piece) (i : ℕ) (d : Piece) → i < length pie
     length (all_bytes (take i pieces)) + length (piece_bytes (get_or pieces i d)) ≤ length (all_bytes pieces)
 take_within pieces i d h =
     let whole : all_bytes (take (i + 1) pieces) ++ all_bytes (drop (i + 1) pieces) ≡ all_bytes pieces =
-        sym (all_bytes-append (take (i + 1) pieces) (drop (i + 1) pieces)) ∙ ap all_bytes (take-append-drop (i + 1) pieces) in
-    omega (arith, ap length whole, length-append (all_bytes (take (i + 1) pieces)) (all_bytes (drop (i + 1) pieces)), ap length (take_piece pieces i d h),
-        length-append (all_bytes (take i pieces)) (piece_bytes (get_or pieces i d)))
+    sym (all_bytes-append (take (i + 1) pieces) (drop (i + 1) pieces)) ∙ ap all_bytes (take-append-drop (i + 1) pieces) in
+    omega (
+      arith,
+      ap length whole,
+      length-append (all_bytes (take (i + 1) pieces)) (all_bytes (drop (i + 1) pieces)),
+      ap length (take_piece pieces i d h),
+      length-append (all_bytes (take i pieces)) (piece_bytes (get_or pieces i d)),
+    )
 
 -- the bytes up to a place, and from it on, by the piece that the place cuts
 pub record IsCutIn (pieces : List Piece) (start i at : ℕ) (piece : Piece) : Type 0 where
@@ -213,7 +218,7 @@ cut_in (p ∷ pieces) start (suc i) at d h l m before here =
           ∙ sym (drop-drop (at - p.end) (length (piece_bytes p)) (piece_bytes p ++ all_bytes pieces))
           ∙ ap (drop (at - p.end)) (drop-append_seam (piece_bytes p) (all_bytes pieces)) ∙ more.back
           ∙ ap (λ k. drop (at + length (piece_bytes (get_or pieces i d)) - (get_or pieces i d).end) (piece_bytes (get_or pieces i d)) ++ all_bytes
-              (drop k (p ∷ pieces))) (sym next);
+          (drop k (p ∷ pieces))) (sym next);
     }
 
 pub cut : (pieces : List Piece) (i at : ℕ) (piece : Piece) → EndsFrom 0 pieces → i < length pieces → AllWithin (λ p. p.end ≤ at) pieces 0 i →
@@ -229,7 +234,7 @@ pub front_whole : (pieces : List Piece) (i at : ℕ) (self run new : List ℕ) �
     AllWithin (λ p. p.end ≤ at - 1) pieces 0 i → run ≡ [] → new ≡ self ++ all_bytes (take i pieces) → new ++ run ≡ self ++ take at (all_bytes pieces)
 front_whole pieces i at self run new h e before none is =
     ap (λ r. new ++ r) none ∙ append-nil new ∙ is ∙ ap (λ t. self ++ t) (ap all_bytes (take_all i pieces (omega arith))
-        ∙ sym (take_all at (all_bytes pieces) (at_end pieces i at h e (λ k d f g. let a = before k d f g in omega arith))))
+    ∙ sym (take_all at (all_bytes pieces) (at_end pieces i at h e (λ k d f g. let a = before k d f g in omega arith))))
 
 pub front_cut : (pieces : List Piece) (i at : ℕ) (piece : Piece) (bytes self run new more : List ℕ) → EndsFrom 0 pieces → i < length pieces →
     AllWithin (λ p. p.end ≤ at - 1) pieces 0 i → AllWithin (λ p. at - 1 < p.end) pieces i (length pieces) → piece ≡ get_or pieces i piece →
@@ -261,12 +266,18 @@ back_cut pieces i at piece bytes self run more mid new h l before after e b m is
     ∙ append_assoc self (run ++ part) behind ∙ ap (λ t. self ++ t) (append_assoc run part behind ∙ ap (λ t. run ++ t) (sym here.back ∙ ap (λ k. drop k (all_bytes pieces)) same))
 
 pub front_within : (pieces : List Piece) (i : ℕ) → length (all_bytes (take i pieces)) ≤ length (all_bytes pieces)
-front_within pieces i = omega (arith, ap length (sym (all_bytes-append (take i pieces) (drop i pieces)) ∙ ap all_bytes (take-append-drop i pieces)),
-    length-append (all_bytes (take i pieces)) (all_bytes (drop i pieces)))
+front_within pieces i = omega (
+  arith,
+  ap length (sym (all_bytes-append (take i pieces) (drop i pieces)) ∙ ap all_bytes (take-append-drop i pieces)),
+  length-append (all_bytes (take i pieces)) (all_bytes (drop i pieces)),
+)
 
 pub back_within : (pieces : List Piece) (i : ℕ) → length (all_bytes (drop i pieces)) ≤ length (all_bytes pieces)
-back_within pieces i = omega (arith, ap length (sym (all_bytes-append (take i pieces) (drop i pieces)) ∙ ap all_bytes (take-append-drop i pieces)),
-    length-append (all_bytes (take i pieces)) (all_bytes (drop i pieces)))
+back_within pieces i = omega (
+  arith,
+  ap length (sym (all_bytes-append (take i pieces) (drop i pieces)) ∙ ap all_bytes (take-append-drop i pieces)),
+  length-append (all_bytes (take i pieces)) (all_bytes (drop i pieces)),
+)
 
 pub cut_starts : (pieces : List Piece) (i at : ℕ) (piece : Piece) (bytes : List ℕ) → EndsFrom 0 pieces → i < length pieces →
     AllWithin (λ p. p.end ≤ at) pieces 0 i → AllWithin (λ p. at < p.end) pieces i (length pieces) → piece ≡ get_or pieces i piece → bytes ≡ piece_bytes piece →
@@ -283,8 +294,14 @@ pub back_room : (pieces : List Piece) (i at : ℕ) (piece : Piece) (bytes : List
 back_room pieces i at piece bytes h l before after e b =
     let here = cut pieces i at piece h l before (λ k d f g. let a = after k d f g in omega arith) e in
     let same = ap (λ t. length (drop (at + length t - piece.end) t)) b in
-    omega (arith, same, ap length here.back, length-append (drop (at + length (piece_bytes piece) - piece.end) (piece_bytes piece))
-        (all_bytes (drop (i + 1) pieces)), length-drop (at - 0) (all_bytes pieces))
+    omega (
+      arith,
+      same,
+      ap length here.back,
+      length-append (drop (at + length (piece_bytes piece) - piece.end) (piece_bytes piece))
+          (all_bytes (drop (i + 1) pieces)),
+      length-drop (at - 0) (all_bytes pieces),
+    )
 
 pub front_starts : (pieces : List Piece) (i at : ℕ) (piece : Piece) (bytes : List ℕ) → EndsFrom 0 pieces → i < length pieces →
     AllWithin (λ p. p.end ≤ at - 1) pieces 0 i → piece ≡ get_or pieces i piece → bytes ≡ piece_bytes piece → piece.end ≤ at + length bytes
@@ -301,7 +318,7 @@ front_ends pieces i at piece l after e = let R : Piece → Type 0 = λ p. at - 1
 lines_take : (pieces : List Piece) (i j : ℕ) → i ≤ j → line_ends (all_bytes (take i pieces)) ≤ line_ends (all_bytes (take j pieces))
 lines_take pieces i j l =
     let whole : all_bytes (take i (take j pieces)) ++ all_bytes (drop i (take j pieces)) ≡ all_bytes (take j pieces) =
-        sym (all_bytes-append (take i (take j pieces)) (drop i (take j pieces))) ∙ ap all_bytes (take-append-drop i (take j pieces)) in
+    sym (all_bytes-append (take i (take j pieces)) (drop i (take j pieces))) ∙ ap all_bytes (take-append-drop i (take j pieces)) in
     let same = ap (λ ps. line_ends (all_bytes ps)) (take-take i j pieces l) in
     omega (arith, same, ap line_ends whole, ends-append (all_bytes (take i (take j pieces))) (all_bytes (drop i (take j pieces))))
 
@@ -434,11 +451,11 @@ line_start_in pieces i k count left before end piece bytes text h l e b view f s
     let cut = ap (λ n. take (n + k) (all_bytes pieces)) g ∙ front_in pieces i k piece l (omega arith) ∙ ap (λ t. front ++ take k t) (sym own) in
     let counts = ap line_ends cut ∙ ends-append front (take k bytes) in
     let not_zero : 0 < k = ⊎_elim (λ (m : 0 < k). m) (λ (m : k ≤ 0). let none : k ≡ 0 = omega arith in let nothing = ap (λ n. line_ends (take n bytes)) none in
-        absurd (omega arith)) (cases_lt 0 k) in
+    absurd (omega arith)) (cases_lt 0 k) in
     let last : get_or (all_bytes pieces) (end + k - 1) 0 ≡ 10 = ap (λ t. get_or t (end + k - 1) 0) whole
-        ∙ get_or-append_right front _ (length front) (end + k - 1) 0 refl (omega arith)
-        ∙ ap (λ n. get_or (piece_bytes (get_or pieces i piece) ++ all_bytes (drop (i + 1) pieces)) n 0) (let n : end + k - 1 - length front ≡ k - 1 =
-        omega arith in n) ∙ get_or-append_left _ _ (k - 1) (omega arith) ∙ ap (λ t. get_or t (k - 1) 0) (sym own) ∙ s.start not_zero in
+    ∙ get_or-append_right front _ (length front) (end + k - 1) 0 refl (omega arith)
+    ∙ ap (λ n. get_or (piece_bytes (get_or pieces i piece) ++ all_bytes (drop (i + 1) pieces)) n 0) (let n : end + k - 1 - length front ≡ k - 1 =
+    omega arith in n) ∙ get_or-append_left _ _ (k - 1) (omega arith) ∙ ap (λ t. get_or t (k - 1) 0) (sym own) ∙ s.start not_zero in
     subst (IsLineStart count (end + k)) view (record { within = omega arith; ends = omega arith; start = λ more. last })
 
 -- where no piece ends past the place all line ends stand before it
@@ -464,7 +481,7 @@ cut_lines inside slice text at i piece bytes before e h view l lower upper is b 
     let here = cut slice i at piece ends l lower (λ k d p q. let a = upper k d p q in omega arith) is in
     let same : at - 0 ≡ at = omega arith in
     let front : take at text ≡ all_bytes (take i slice) ++ take (at + length bytes - piece.end) bytes = ap (take at) (sym whole)
-        ∙ ap (λ k. take k (all_bytes slice)) (sym same) ∙ here.front ∙ ap (λ t. all_bytes (take i slice) ++ take (at + length t - piece.end) t) (sym b) in
+    ∙ ap (λ k. take k (all_bytes slice)) (sym same) ∙ here.front ∙ ap (λ t. all_bytes (take i slice) ++ take (at + length t - piece.end) t) (sym b) in
     let part = take (at + length bytes - piece.end) bytes in
     record {
       starts = (cut_starts slice i at piece bytes ends l lower upper is b).0;
@@ -536,5 +553,5 @@ reached inside slice text count i before piece bytes e are view some l lower upp
       start = λ k s.
           let at : piece.end + k - length bytes ≡ length (all_bytes (take i slice)) + k = omega (arith, size, same) in
           subst (λ n. IsLineStart count n text) (sym at) (line_start_in slice i k count (count - before) before
-              (length (all_bytes (take i slice))) piece bytes text h l is b (ap all_bytes e ∙ view) f (omega (arith, f, low)) refl refl s);
+          (length (all_bytes (take i slice))) piece bytes text h l is b (ap all_bytes e ∙ view) f (omega (arith, f, low)) refl refl s);
     }

@@ -70,13 +70,28 @@ back_stands versions v h q = let p : nat_lt (length versions) VERSION_LIMIT ≡ 
 -- an edit brings few lines
 pub edited_few : (e : Edit) (text : List (List ℕ)) → length (edited e text) ≤ length text + length text + length (new_lines e)
 unfolding edited
-edited_few (edit.Insert after lines) text = omega (arith, length-append (take after text) (lines ++ drop after text), length-append lines (drop after text),
-    length-take after text, length-drop after text)
+edited_few (edit.Insert after lines) text = omega (
+  arith,
+  length-append (take after text) (lines ++ drop after text),
+  length-append lines (drop after text),
+  length-take after text,
+  length-drop after text,
+)
 edited_few (edit.Delete first last) text = omega (arith, length-append (take (first - 1) text) (drop last text), length-take (first - 1) text, length-drop last text)
-edited_few (edit.Replace first last lines) text = omega (arith, length-append (take (first - 1) text) (lines ++ drop last text),
-    length-append lines (drop last text), length-take (first - 1) text, length-drop last text)
-edited_few (edit.Sub line column count bytes) text = omega (arith, length-append (take (line - 1) text) (substituted column count bytes (line_at text line)
-    ∷ drop line text), length-take (line - 1) text, length-drop line text)
+edited_few (edit.Replace first last lines) text = omega (
+  arith,
+  length-append (take (first - 1) text) (lines ++ drop last text),
+  length-append lines (drop last text),
+  length-take (first - 1) text,
+  length-drop last text,
+)
+edited_few (edit.Sub line column count bytes) text = omega (
+  arith,
+  length-append (take (line - 1) text) (substituted column count bytes (line_at text line)
+      ∷ drop line text),
+  length-take (line - 1) text,
+  length-drop line text,
+)
 
 -- a new text whose lines are short enough
 pub too_made : (made : List (List ℕ)) (bytes : ℕ) → position_from is_long 1 made ≡ None → bytes ≡ length (bytes_of made) → TEXT_LIMIT < bytes →
@@ -85,7 +100,7 @@ too_made made bytes none e l =
     let n = length (bytes_of made) in
     let big : nat_le n TEXT_LIMIT ≡ false = lt-leb n TEXT_LIMIT (omega arith) in
     ap (λ o. first_of (option_map (λ line. error.LineLong line) o ∷ too_long made ∷ [])) none ∙ ap (λ b. first_of (unless b (error.TooLong n) ∷ [])) big
-        ∙ ap (λ k. Some (error.TooLong k)) (sym e)
+    ∙ ap (λ k. Some (error.TooLong k)) (sym e)
 
 pub kept_made : (made : List (List ℕ)) → position_from is_long 1 made ≡ None → length (bytes_of made) ≤ TEXT_LIMIT → first_of (line_long made ∷ too_long made ∷ []) ≡ None
 kept_made made none l =

@@ -55,16 +55,23 @@ size_edited e text h =
     let within = is.within in
     let front = take (change_start e text) (bytes_of text) in
     let back = drop (change_start e text + change_removed e text) (bytes_of text) in
-    omega (arith, ap length is.bytes, length-append front (change_bytes e ++ back), length-append (change_bytes e) back, length-take (change_start e text)
-        (bytes_of text), length-drop (change_start e text + change_removed e text) (bytes_of text))
+    omega (
+      arith,
+      ap length is.bytes,
+      length-append front (change_bytes e ++ back),
+      length-append (change_bytes e) back,
+      length-take (change_start e text)
+          (bytes_of text),
+      length-drop (change_start e text + change_removed e text) (bytes_of text),
+    )
 
 -- the bytes of an edited text
 pub made_bytes : (e : Edit) (p made : List ℕ) (text : List (List ℕ)) (start removed : ℕ) (new : List ℕ) → lines_of p ≡ text → bytes_of (lines_of p) ≡ p →
     IsInRange e text → start ≡ change_start e text → removed ≡ change_removed e text → new ≡ change_bytes e → made ≡ spliced start removed new p → made ≡ bytes_of (edited e text)
 made_bytes e p made text start removed new view ended h a b c is =
     is ∙ ap (λ k. spliced k removed new p) a ∙ ap (λ k. spliced (change_start e text) k new p) b
-        ∙ ap (λ t. spliced (change_start e text) (change_removed e text) t p) c ∙ ap (spliced (change_start e text) (change_removed e text) (change_bytes e))
-        (whole p text view ended) ∙ sym (byte_change e text h).bytes
+    ∙ ap (λ t. spliced (change_start e text) (change_removed e text) t p) c ∙ ap (spliced (change_start e text) (change_removed e text) (change_bytes e))
+    (whole p text view ended) ∙ sym (byte_change e text h).bytes
 
 pub made_lines : (made : List ℕ) (text : List (List ℕ)) → AreLines text → made ≡ bytes_of text → lines_of made ≡ text
 made_lines made text lines e = ap lines_of e ∙ lines_of-bytes_of text lines

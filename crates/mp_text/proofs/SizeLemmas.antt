@@ -31,8 +31,12 @@ unfolding bytes_of
 bytes_more text i h = ap bytes_of (take_more text i [] h) ∙ bytes_of-append (take i text) (get_or text i [] ∷ [])
 
 pub size_more : (text : List (List ℕ)) (i : ℕ) → i < length text → length (bytes_of (take (i + 1) text)) ≡ length (bytes_of (take i text)) + (length (get_or text i []) + 1)
-size_more text i h = omega (arith, ap length (bytes_more text i h), length-append (bytes_of (take i text)) (get_or text i [] ++ 10 ∷ []),
-    length-append (get_or text i []) (10 ∷ []))
+size_more text i h = omega (
+  arith,
+  ap length (bytes_more text i h),
+  length-append (bytes_of (take i text)) (get_or text i [] ++ 10 ∷ []),
+  length-append (get_or text i []) (10 ∷ []),
+)
 
 pub lines_more : (text : List (List ℕ)) (i : ℕ) → i < length text → AreLines (take i text) → IsLine (get_or text i []) → AreLines (take (i + 1) text)
 lines_more text i h lines line = rw (take_more text i [] h) (lines_append (take i text) (get_or text i [] ∷ []) lines (line, tt))
@@ -57,7 +61,7 @@ short_first : (line : List ℕ) (text : List (List ℕ)) (n : ℕ) → position_
 short_first line text n e = ⊎_elim
     (λ (long : LINE_LIMIT < length line). let q : is_long line ≡ true = le-leb (suc LINE_LIMIT) _ (omega arith) in let f : Some n ≡ None = sym (rw q refl) ∙ e in absurd (cc))
     (λ (short : length line ≤ LINE_LIMIT). let q : is_long line ≡ false = lt-leb (suc LINE_LIMIT) _ (omega arith) in
-        let s : position_from is_long n (line ∷ text) ≡ position_from is_long (n + 1) text = rw q refl in (short, sym s ∙ e))
+    let s : position_from is_long n (line ∷ text) ≡ position_from is_long (n + 1) text = rw q refl in (short, sym s ∙ e))
     (cases_lt LINE_LIMIT (length line))
 
 -- where no line is too long, all are short enough

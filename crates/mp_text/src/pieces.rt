@@ -307,6 +307,7 @@ impl Pieces {
 }
 
 /// A version's bytes, read one by one; each that is read is a step of the counter that is given.
+#[derive(Drop)]
 pub struct VersionReader<'t> {
     pub(crate) pieces: &'t Pieces,
 }

@@ -35,7 +35,7 @@ returns-then-bytes-clause-err c =
     let text = c.args.text.now in
     let none = sym c.long_line.ensures ∙ c.in_default.is in
     let size : c.from.result + c.added.result - c.from-2.result ≡ length (bytes_of (edited e text)) =
-        omega (arith, size_edited e text c.requires.range, c.change_removed-removed.ensures, c.len.ensures, c.from.ensures, c.added.ensures.added, c.from-2.ensures) in
+    omega (arith, size_edited e text c.requires.range, c.change_removed-removed.ensures, c.len.ensures, c.from.ensures, c.added.ensures.added, c.from-2.ensures) in
     too_made (edited e text) _ none size (omega arith)
 
 pub returns-clause-ok : goal.returns-clause-ok
@@ -43,8 +43,15 @@ returns-clause-ok c =
     let e = c.args.edit.now in
     let text = c.args.text.now in
     let none = sym c.long_line.ensures ∙ c.in_default.is in
-    kept_made (edited e text) none (omega (arith, size_edited e text c.requires.range, c.change_removed-removed.ensures, c.len.ensures, c.from.ensures,
-        c.added.ensures.added, c.from-2.ensures))
+    kept_made (edited e text) none (omega (
+      arith,
+      size_edited e text c.requires.range,
+      c.change_removed-removed.ensures,
+      c.len.ensures,
+      c.from.ensures,
+      c.added.ensures.added,
+      c.from-2.ensures,
+    ))
 
 pub returns-clause-text : goal.returns-clause-text
 returns-clause-text c =

@@ -31,7 +31,7 @@ returns-in-Insert c =
     let text = c.args.text.now in
     let r = subst (λ e. IsInRange e text) c.in-Insert.is c.requires.range in
     c.first_long.ensures ∙ ap (position_from is_long (c.in-Insert.after + 1)) c.get.ensures
-        ∙ long_insert c.in-Insert.after c.in-Insert.lines text c.requires.text r ∙ ap (λ e. position_from is_long 1 (edited e text)) (sym c.in-Insert.is)
+    ∙ long_insert c.in-Insert.after c.in-Insert.lines text c.requires.text r ∙ ap (λ e. position_from is_long 1 (edited e text)) (sym c.in-Insert.is)
 
 pub returns-in-Delete : goal.returns-in-Delete
 returns-in-Delete c =
@@ -44,21 +44,21 @@ returns-in-Replace c =
     let text = c.args.text.now in
     let r = subst (λ e. IsInRange e text) c.in-Replace.is c.requires.range in
     c.first_long-in-Replace.ensures ∙ ap (position_from is_long c.in-Replace.first) c.get-in-Replace.ensures
-        ∙ long_replace c.in-Replace.first c.in-Replace.last c.in-Replace.lines text c.requires.text r.0 (omega (arith, r.0, r.1, r.2))
-        ∙ ap (λ e. position_from is_long 1 (edited e text)) (sym c.in-Replace.is)
+    ∙ long_replace c.in-Replace.first c.in-Replace.last c.in-Replace.lines text c.requires.text r.0 (omega (arith, r.0, r.1, r.2))
+    ∙ ap (λ e. position_from is_long 1 (edited e text)) (sym c.in-Replace.is)
 
 pub returns-then-saturating_add-gt-LINE_LIMIT : goal.returns-then-saturating_add-gt-LINE_LIMIT
 returns-then-saturating_add-gt-LINE_LIMIT c =
     let text = c.args.text.now in
     let r = subst (λ e. IsInRange e text) c.in-Sub.is c.requires.range in
     long_sub c.in-Sub.line c.in-Sub.column c.in-Sub.count c.in-Sub.bytes text c.requires.text r
-        (omega (arith, c.if-saturating_add-gt-LINE_LIMIT.true, c.saturating_add.ensures, c.line_len.ensures, ap length c.get-in-Sub.ensures.bytes))
-        ∙ ap (λ e. position_from is_long 1 (edited e text)) (sym c.in-Sub.is)
+    (omega (arith, c.if-saturating_add-gt-LINE_LIMIT.true, c.saturating_add.ensures, c.line_len.ensures, ap length c.get-in-Sub.ensures.bytes))
+    ∙ ap (λ e. position_from is_long 1 (edited e text)) (sym c.in-Sub.is)
 
 pub returns-else-saturating_add-gt-LINE_LIMIT : goal.returns-else-saturating_add-gt-LINE_LIMIT
 returns-else-saturating_add-gt-LINE_LIMIT c =
     let text = c.args.text.now in
     let r = subst (λ e. IsInRange e text) c.in-Sub.is c.requires.range in
     short_sub c.in-Sub.line c.in-Sub.column c.in-Sub.count c.in-Sub.bytes text c.requires.text r
-        (omega (arith, c.if-saturating_add-gt-LINE_LIMIT.false, c.saturating_add.ensures, c.line_len.ensures, ap length c.get-in-Sub.ensures.bytes))
-        ∙ ap (λ e. position_from is_long 1 (edited e text)) (sym c.in-Sub.is)
+    (omega (arith, c.if-saturating_add-gt-LINE_LIMIT.false, c.saturating_add.ensures, c.line_len.ensures, ap length c.get-in-Sub.ensures.bytes))
+    ∙ ap (λ e. position_from is_long 1 (edited e text)) (sym c.in-Sub.is)

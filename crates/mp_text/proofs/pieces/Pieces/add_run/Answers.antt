@@ -9,7 +9,7 @@ cuts-preserved c =
     let so = c.cuts.invariant in
     let size : at + 2048 - at ≡ 2048 = omega arith in
     let piece : (arc_value c.in_ok-new.field-0).items ≡ take 2048 (drop at run) = ap (λ v. v.items) c.in_ok-new.ensures.ok ∙ c.in_ok-from_slice.ensures.items
-        ∙ ap (λ k. take k (drop at run)) size in
+    ∙ ap (λ k. take k (drop at run)) size in
     record {
       within = omega (arith, c.cuts-test.true, so.within);
       bytes = c.in_ok-add.ensures.ok ∙ ap (λ t. t ++ (arc_value c.in_ok-new.field-0).items) so.bytes

@@ -7,7 +7,7 @@ use Rattle.mp_text.proofs.pieces.Pieces.share.Goals as goal
 pub overflow_sub-piece : goal.overflow_sub-piece
 overflow_sub-piece c =
     let own = own_lines c.args.pieces.now c.pieces.piece-index c.args.before c.pieces.lines c.piece-item.result c.requires.lines c.pieces-test.true
-        c.piece-item.is c.pieces.invariant.lines in
+    c.piece-item.is c.pieces.invariant.lines in
     omega (arith, own)
 
 pub add-requires : goal.add-requires
@@ -34,6 +34,6 @@ pieces-preserved c =
       bytes = c.in_ok-add.ensures.ok ∙ ap (λ t. t ++ (arc_value c.in_ok-try_clone.field-0).items) c.pieces.invariant.bytes
           ∙ append_assoc c.args.self.now (all_bytes (take i pieces)) (arc_value c.in_ok-try_clone.field-0).items
           ∙ ap (λ t. c.args.self.now ++ t) (ap (λ t. all_bytes (take i pieces) ++ t) (same ∙ ap piece_bytes c.piece-item.is)
-              ∙ sym (take_piece pieces i c.piece-item.result c.pieces-test.true));
+          ∙ sym (take_piece pieces i c.piece-item.result c.pieces-test.true));
       lines = next_lines pieces i c.args.before c.piece-item.result.lines c.piece-item.result c.requires.lines c.pieces-test.true c.piece-item.is refl;
     }

@@ -1,0 +1,18 @@
+use Rattle.std.proofs.Common.{◌≡◌, ◌+◌, ◌-◌, ◌≤◌, drop, length, max}
+use Rattle.mp_lex.specs.Lengths.{comment_len}
+use Rattle.mp_lex.specs.Windows.{IsRead}
+use Rattle.mp_lex.proofs.window.read_comment.Given as goal
+
+abbrev pub invariant-bytes : goal.invariant-bytes
+invariant-bytes g l = record {
+  from : l.window.from ≡ l.initial.window.from;
+  read : IsRead (g.T.Reader.bytes l.text) l.window.from l.window.bytes.items;
+  end : l.end ≤ length l.window.bytes.items;
+  steps : l.steps + length l.initial.window.bytes.items ≤ l.initial.steps + length l.window.bytes.items;
+  grown : length l.initial.window.bytes.items ≤ length l.window.bytes.items;
+  reach : length l.window.bytes.items ≤ max (length l.initial.window.bytes.items) (l.end + 1);
+  same : l.end + comment_len (drop (l.initial.window.from + l.end) (g.T.Reader.bytes l.text)) ≡ l.at + comment_len (drop (l.initial.window.from + l.at) (g.T.Reader.bytes l.text));
+}
+
+abbrev pub decreases-bytes : goal.decreases-bytes
+decreases-bytes g l = length (g.T.Reader.bytes l.text) - l.end
