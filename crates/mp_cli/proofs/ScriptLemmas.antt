@@ -1,5 +1,6 @@
 -- Each way in which the loop goes on or ends, and the clause that it gives.
-use Rattle.std.proofs.Common.{◌≡◌, ◌≢◌, ◌≤◌, ◌+◌, ℕ, Option, None, Some, is_none, true, false, List, [], ◌∷◌, ◌++◌, length, refl, ap, subst, sym, ◌∙◌, append_assoc, arith, ⊎_elim, inl, inr}
+use Rattle.std.proofs.Common.{◌≡◌, ◌≢◌, ◌≤◌, ◌+◌, ℕ, Option, None, Some, is_none, true, false, List, [], ◌∷◌, ◌++◌, length, refl, ap, subst, sym, ◌∙◌}
+use Rattle.std.proofs.Common.{append_assoc, arith, ⊎_elim, inl, inr}
 use Rattle.std.proofs.lemmas.List.{append-nil, length-append}
 use Rattle.mp_edge.specs.Told.{Grows, IsFront}
 use Rattle.mp_edge.proofs.ToldLemmas.{grows_more, consumes_more}
@@ -31,17 +32,21 @@ reached_none = record { run = after_none (from (idle start)); left = refl }
 abbrev pub led : Stand → List ℕ → List ℕ → Ran
 led stand rest piece = after (from stand) (cut (rest ++ piece)).whole
 
-ran_more : (t w rest piece : List ℕ) (stand : Stand) → Reached t w rest stand → ran_so_far (t ++ piece) ≡ record { bytes = w ++ (led stand rest piece).bytes; now = (led stand rest piece).now }
+ran_more : (t w rest piece : List ℕ) (stand : Stand) → Reached t w rest stand →
+    ran_so_far (t ++ piece) ≡ record { bytes = w ++ (led stand rest piece).bytes; now = (led stand rest piece).now }
 ran_more t w rest piece stand h =
     ran_append t piece w stand h.run ∙ ap (λ r. let x : Ran = record { bytes = w ++ (led stand r piece).bytes; now = (led stand r piece).now } in x) h.left
 
-pub reached_more : (t w rest piece : List ℕ) (stand next : Stand) {after_rest : List ℕ} → Reached t w rest stand → (led stand rest piece).now ≡ Some next → after_rest ≡ (cut (rest ++ piece)).rest → Reached (t ++ piece) (w ++ (led stand rest piece).bytes) after_rest next
+pub reached_more : (t w rest piece : List ℕ) (stand next : Stand) {after_rest : List ℕ} → Reached t w rest stand →
+    (led stand rest piece).now ≡ Some next → after_rest ≡ (cut (rest ++ piece)).rest →
+    Reached (t ++ piece) (w ++ (led stand rest piece).bytes) after_rest next
 reached_more t w rest piece stand next h n r = record {
   run = ran_more t w rest piece stand h ∙ ap (λ x. let z : Ran = record { bytes = w ++ (led stand rest piece).bytes; now = x } in z) n;
   left = ap (λ (c : Cut). c.rest) (cut-append t piece) ∙ ap (λ l. (cut (l ++ piece)).rest) h.left ∙ sym r;
 }
 
-pub quit_more : (t w rest piece : List ℕ) (stand : Stand) → Reached t w rest stand → (led stand rest piece).now ≡ None → ran_so_far (t ++ piece) ≡ record { bytes = w ++ (led stand rest piece).bytes; now = None }
+pub quit_more : (t w rest piece : List ℕ) (stand : Stand) → Reached t w rest stand → (led stand rest piece).now ≡ None →
+    ran_so_far (t ++ piece) ≡ record { bytes = w ++ (led stand rest piece).bytes; now = None }
 quit_more t w rest piece stand h n = ran_more t w rest piece stand h ∙ ap (λ x. let z : Ran = record { bytes = w ++ (led stand rest piece).bytes; now = x } in z) n
 
 pub front_more : (w f all : List ℕ) → IsFront f all → IsFront (w ++ f) (w ++ all)
@@ -121,7 +126,8 @@ part_line stand (b ∷ rest) line f e ne p =
     let q : IsFront f r.bytes = (p.0, ap (λ x. (step stand x).bytes) (sym e) ∙ p.1) in
     (q.0 ++ closing script_ended r.now, ap (λ x. x ++ closing script_ended r.now) q.1 ∙ append_assoc f q.0 (closing script_ended r.now))
 
-pub part_closing : (stand next : Stand) (rest line f : List ℕ) → line ≡ rest → rest ≢ [] → (step stand line).now ≡ Some next → IsFront f (closing script_ended (Some next)) → IsFront ((step stand line).bytes ++ f) (last_bytes stand rest)
+pub part_closing : (stand next : Stand) (rest line f : List ℕ) → line ≡ rest → rest ≢ [] → (step stand line).now ≡ Some next →
+    IsFront f (closing script_ended (Some next)) → IsFront ((step stand line).bytes ++ f) (last_bytes stand rest)
 part_closing stand next [] line f e ne n p = absurd (ne refl)
 part_closing stand next (b ∷ rest) line f e ne n p =
     let q = front_more (step stand line).bytes f (closing script_ended (Some next)) p in

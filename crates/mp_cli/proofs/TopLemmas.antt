@@ -23,7 +23,8 @@ one_at_most (b ∷ rest) = omega arith
 -- an end that the last line lacks is one byte
 pub ended_few : (taken slice : List ℕ) → slice ≡ bytes_of (lines_of taken) → length taken < SCRIPT_LIMIT → length slice ≤ SCRIPT_LIMIT
 ended_few taken slice e h =
-    let parts : length slice ≡ length taken + length (lacking_end (cut taken).rest) = ap length (e ∙ bytes_of-lines_of taken) ∙ length-append taken (lacking_end (cut taken).rest) in
+    let parts : length slice ≡ length taken + length (lacking_end (cut taken).rest) =
+    ap length (e ∙ bytes_of-lines_of taken) ∙ length-append taken (lacking_end (cut taken).rest) in
     omega (arith, parts, one_at_most (cut taken).rest, h)
 
 pub front_of : (front bytes whole : List ℕ) → bytes ≡ whole → IsFront front bytes → IsFront front whole

@@ -30,7 +30,8 @@ pub(crate) fn read_all<S: Source>(source: &mut S, text: &mut Vec<u8>) -> Ending
     ensures left { Consumes (S.left source.old) (S.left source.new) text.new.items }
     ensures ending { HasRead result (vec_len text.new) (S.left source.new) }
 
-    ensures source { Failures (is_fault result) (S.faults source.old) (S.faults source.new) (S.failures source.old) (S.failures source.new) (S.quiet source.old) (S.quiet source.new) }
+    ensures source { Failures (is_fault result) (S.faults source.old) (S.faults source.new)
+        (S.failures source.old) (S.failures source.new) (S.quiet source.old) (S.quiet source.new) }
 {
     let mut buffer = [0u8; BUFFER_SIZE];
     'reads: while text.len() < SCRIPT_LIMIT {

@@ -22,7 +22,8 @@ use std::alloc::Global;
 fn close<K: Sink>(waiting: &Option<Command>, sink: &mut K) -> Result<(), SessionError>
     ensures ok { OnOk result (Grows (K.written sink.old) (K.written sink.new) (closing_of script_ended waiting.now)) }
     ensures partly { OnErr result (GrowsPartly (K.written sink.old) (K.written sink.new) (closing_of script_ended waiting.now)) }
-    ensures sink { Failures (is_write_fault result) (K.faults sink.old) (K.faults sink.new) (K.failures sink.old) (K.failures sink.new) (K.quiet sink.old) (K.quiet sink.new) }
+    ensures sink { Failures (is_write_fault result) (K.faults sink.old) (K.faults sink.new)
+        (K.failures sink.old) (K.failures sink.new) (K.quiet sink.old) (K.quiet sink.new) }
 {
     if waiting.is_some() {
         write_all(sink, b"? 25 script ended\n")?;
@@ -42,7 +43,8 @@ fn finish<K: Sink>(
     requires count { session.old.obeyed < 2 ^ 32 }
     ensures ok { OnOk result (Grows (K.written sink.old) (K.written sink.new) (last_bytes (standing session.old.state waiting.old) lines)) }
     ensures partly { OnErr result (GrowsPartly (K.written sink.old) (K.written sink.new) (last_bytes (standing session.old.state waiting.old) lines)) }
-    ensures sink { Failures (is_write_fault result) (K.faults sink.old) (K.faults sink.new) (K.failures sink.old) (K.failures sink.new) (K.quiet sink.old) (K.quiet sink.new) }
+    ensures sink { Failures (is_write_fault result) (K.faults sink.old) (K.faults sink.new)
+        (K.failures sink.old) (K.failures sink.new) (K.quiet sink.old) (K.quiet sink.new) }
 {
     let Some(line) = lines.finish() else {
         return close(waiting, sink);
@@ -61,9 +63,12 @@ fn obey_script<S: Source, K: Sink>(
     sink: &mut K,
 ) -> Status
     requires { session.old ≡ record { state = start; obeyed = 0 } }
-    ensures met { Met (Some Form.Serial) result (S.taken source.old) (S.taken source.new) (S.left source.old) (S.left source.new) (K.written sink.old) (K.written sink.new) }
-    ensures source { Failures (read_failed_at result) (S.faults source.old) (S.faults source.new) (S.failures source.old) (S.failures source.new) (S.quiet source.old) (S.quiet source.new) }
-    ensures sink { Failures (write_failed_at result) (K.faults sink.old) (K.faults sink.new) (K.failures sink.old) (K.failures sink.new) (K.quiet sink.old) (K.quiet sink.new) }
+    ensures met { Met (Some Form.Serial) result (S.taken source.old) (S.taken source.new) (S.left source.old) (S.left source.new)
+        (K.written sink.old) (K.written sink.new) }
+    ensures source { Failures (read_failed_at result) (S.faults source.old) (S.faults source.new)
+        (S.failures source.old) (S.failures source.new) (S.quiet source.old) (S.quiet source.new) }
+    ensures sink { Failures (write_failed_at result) (K.faults sink.old) (K.faults sink.new)
+        (K.failures sink.old) (K.failures sink.new) (K.quiet sink.old) (K.quiet sink.new) }
 {
     let mut waiting: Option<Command> = None;
     let mut lines = Lines::new(alloc);
@@ -98,9 +103,12 @@ fn obey_script<S: Source, K: Sink>(
 
 /// Obeys the script that the source gives, in a session without threads.
 pub(crate) fn serial<S: Source, K: Sink>(alloc: Global, source: &mut S, sink: &mut K) -> Status
-    ensures met { Met (Some Form.Serial) result (S.taken source.old) (S.taken source.new) (S.left source.old) (S.left source.new) (K.written sink.old) (K.written sink.new) }
-    ensures source { Failures (read_failed_at result) (S.faults source.old) (S.faults source.new) (S.failures source.old) (S.failures source.new) (S.quiet source.old) (S.quiet source.new) }
-    ensures sink { Failures (write_failed_at result) (K.faults sink.old) (K.faults sink.new) (K.failures sink.old) (K.failures sink.new) (K.quiet sink.old) (K.quiet sink.new) }
+    ensures met { Met (Some Form.Serial) result (S.taken source.old) (S.taken source.new) (S.left source.old) (S.left source.new)
+        (K.written sink.old) (K.written sink.new) }
+    ensures source { Failures (read_failed_at result) (S.faults source.old) (S.faults source.new)
+        (S.failures source.old) (S.failures source.new) (S.quiet source.old) (S.quiet source.new) }
+    ensures sink { Failures (write_failed_at result) (K.faults sink.old) (K.faults sink.new)
+        (K.failures sink.old) (K.failures sink.new) (K.quiet sink.old) (K.quiet sink.new) }
 {
     match Session::serial(alloc) {
         Ok(mut session) => obey_script(alloc, &mut session, source, sink),

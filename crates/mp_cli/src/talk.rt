@@ -55,7 +55,8 @@ pub(crate) fn take_line<K: Sink>(
     ensures count { OnOk result (session.new.obeyed ≤ session.old.obeyed + 1) }
 
     // What went wrong.
-    ensures sink { Failures (is_write_fault result) (K.faults sink.old) (K.faults sink.new) (K.failures sink.old) (K.failures sink.new) (K.quiet sink.old) (K.quiet sink.new) }
+    ensures sink { Failures (is_write_fault result) (K.faults sink.old) (K.faults sink.new)
+        (K.failures sink.old) (K.failures sink.new) (K.quiet sink.old) (K.quiet sink.new) }
 {
     let before = mem::replace(waiting, None);
     let Some(next) = next_command(alloc, before, line)? else {
@@ -88,7 +89,8 @@ pub(crate) fn take_lines<K: Sink>(
     ensures count { OnOk result (session.new.obeyed ≤ session.old.obeyed + length lines) }
 
     // What went wrong.
-    ensures sink { Failures (is_write_fault result) (K.faults sink.old) (K.faults sink.new) (K.failures sink.old) (K.failures sink.new) (K.quiet sink.old) (K.quiet sink.new) }
+    ensures sink { Failures (is_write_fault result) (K.faults sink.old) (K.faults sink.new)
+        (K.failures sink.old) (K.failures sink.new) (K.quiet sink.old) (K.quiet sink.new) }
 {
     for line in lines.into_vec() {
         if let Turn::Quit = take_line(alloc, session, waiting, line, sink)? {

@@ -15,9 +15,12 @@ use std::alloc::Global;
 
 // Writes the listing of the text that the source gives.
 fn list<S: Source, K: Sink>(alloc: Global, source: &mut S, sink: &mut K) -> Status
-    ensures met { Met (Some Form.List) result (S.taken source.old) (S.taken source.new) (S.left source.old) (S.left source.new) (K.written sink.old) (K.written sink.new) }
-    ensures source { Failures (read_failed_at result) (S.faults source.old) (S.faults source.new) (S.failures source.old) (S.failures source.new) (S.quiet source.old) (S.quiet source.new) }
-    ensures sink { Failures (write_failed_at result) (K.faults sink.old) (K.faults sink.new) (K.failures sink.old) (K.failures sink.new) (K.quiet sink.old) (K.quiet sink.new) }
+    ensures met { Met (Some Form.List) result (S.taken source.old) (S.taken source.new) (S.left source.old) (S.left source.new)
+        (K.written sink.old) (K.written sink.new) }
+    ensures source { Failures (read_failed_at result) (S.faults source.old) (S.faults source.new)
+        (S.failures source.old) (S.failures source.new) (S.quiet source.old) (S.quiet source.new) }
+    ensures sink { Failures (write_failed_at result) (K.faults sink.old) (K.faults sink.new)
+        (K.failures sink.old) (K.failures sink.new) (K.quiet sink.old) (K.quiet sink.new) }
 {
     let mut text = Vec::new(alloc);
     match read_all(source, &mut text) {
@@ -50,7 +53,8 @@ pub fn run_plain<S: Source, K: Sink>(
     sink: &mut K,
 ) -> Status
     // What was taken and what was written, form by form and status by status.
-    ensures met { Met (form_of (map string_bytes words.now)) result (S.taken source.old) (S.taken source.new) (S.left source.old) (S.left source.new) (K.written sink.old) (K.written sink.new) }
+    ensures met { Met (form_of (map string_bytes words.now)) result (S.taken source.old) (S.taken source.new) (S.left source.old) (S.left source.new)
+        (K.written sink.old) (K.written sink.new) }
     ensures complete { ¬ Rose (S.faults source.old) (S.faults source.new) → ¬ Rose (K.faults sink.old) (K.faults sink.new)
         → Completes (form_of (map string_bytes words.now)) result (S.left source.old) (K.written sink.old) (K.written sink.new) }
 
@@ -59,8 +63,10 @@ pub fn run_plain<S: Source, K: Sink>(
     ensures untouched { result ≡ Status.Words → (source.new ≡ source.old) × (sink.new ≡ sink.old) }
 
     // What went wrong.
-    ensures source { Failures (read_failed_at result) (S.faults source.old) (S.faults source.new) (S.failures source.old) (S.failures source.new) (S.quiet source.old) (S.quiet source.new) }
-    ensures sink { Failures (write_failed_at result) (K.faults sink.old) (K.faults sink.new) (K.failures sink.old) (K.failures sink.new) (K.quiet sink.old) (K.quiet sink.new) }
+    ensures source { Failures (read_failed_at result) (S.faults source.old) (S.faults source.new)
+        (S.failures source.old) (S.failures source.new) (S.quiet source.old) (S.quiet source.new) }
+    ensures sink { Failures (write_failed_at result) (K.faults sink.old) (K.faults sink.new)
+        (K.failures sink.old) (K.failures sink.new) (K.quiet sink.old) (K.quiet sink.new) }
 {
     match form_of(words) {
         None => Status::Words,

@@ -1,4 +1,4 @@
-ghost use Rattle.std.specs.Prelude.{◌≡◌, ◌<◌, ◌≤◌, [], IfErr, IfOk, None, Some, length};
+ghost use Rattle.std.specs.Prelude.{◌≡◌, ◌<◌, ◌≤◌, [], IfErr, IfOk, None, Some, Ok, Err, length};
 ghost use Rattle.mp_script.specs.Meaning.{alone, by_words, chomped, meant, show_verb, verb_of, wants_of};
 ghost use Rattle.mp_script.specs.Words.{behind_word};
 
@@ -126,7 +126,8 @@ fn by_words(alloc: Global, words: &[Bytes], line: &[u8]) -> Result<Option<Verb>,
 // The verb of a line of a script.
 #[tactic(auto, unfolding(crate::specs::Meaning::meant))]
 fn meant(alloc: Global, line: &[u8]) -> Result<Option<Verb>, Memory>
-    ensures { IfOk result (λ verb. verb ≡ meant line.now) }
+    ensures verb { IfOk result (λ verb. verb ≡ meant line.now) }
+    ensures long { COMMAND_LIMIT < length (chomped line.now) → result ≡ Ok None }
 {
     let bytes = chomped(line);
     if bytes.len() > COMMAND_LIMIT {
@@ -145,6 +146,8 @@ pub fn command(alloc: Global, line: &TextLine) -> Result<Command, BadLine>
     // A number has at most 9 digits.
     ensures few { IfOk result (λ command. command.wants < 1000000000) }
     ensures bad { IfErr result (λ why. why ≡ BadLine.Bad → meant line.now ≡ None) }
+    // Nothing is taken of the memory for a line that is too long.
+    ensures long { COMMAND_LIMIT < length (chomped line.now) → result ≡ Err BadLine.Bad }
 {
     match meant(alloc, line.get()) {
         Err(_) => Err(BadLine::Memory),

@@ -34,7 +34,8 @@ few_bytes text bytes e t = subst (λ b. length b ≤ TEXT_LIMIT) (sym e) t.small
 pub lists : (state : State) (version : ℕ) (bytes : List ℕ) (answer : Result (List ℕ) Memory) → stands state.versions version ≡ true
     → bytes ≡ bytes_of (version_at state.versions version) → IsText (version_at state.versions version)
     → IfOk answer (λ listing. listing ≡ text_listing (lines_of bytes)) → IfOk answer (λ listing. list_reply state version ≡ record { state = state; bytes = listing })
-lists state version bytes answer s e t = IfOk-weaker answer (λ listing. listing ≡ text_listing (lines_of bytes)) (λ listing. list_reply state version ≡ record { state = state; bytes = listing })
+lists state version bytes answer s e t = IfOk-weaker answer (λ listing. listing ≡ text_listing (lines_of bytes))
+    (λ listing. list_reply state version ≡ record { state = state; bytes = listing })
     (λ listing l. rw s (ap (said state) (sym (l ∙ ap text_listing (version_lines (version_at state.versions version) bytes e t)))))
 
 -- `sub` takes one line
@@ -47,7 +48,8 @@ pub limit_long : (text : List (List ℕ)) (line : ℕ) → position_from is_long
 unfolding limit_refusal
 limit_long text line e = rw e refl
 
-pub limit_large : (text : List (List ℕ)) (bytes : List ℕ) → bytes ≡ bytes_of text → position_from is_long 1 text ≡ None → TEXT_LIMIT < length bytes → limit_refusal text ≡ Some (error.TooLong (length bytes))
+pub limit_large : (text : List (List ℕ)) (bytes : List ℕ) → bytes ≡ bytes_of text → position_from is_long 1 text ≡ None → TEXT_LIMIT < length bytes →
+    limit_refusal text ≡ Some (error.TooLong (length bytes))
 unfolding limit_refusal
 limit_large text bytes b e h =
     let large : TEXT_LIMIT < length (bytes_of text) = subst (λ x. TEXT_LIMIT < length x) b h in
@@ -68,7 +70,8 @@ none_refused (Some error) small refused h = absurd (let n : ⊥ = cc in n)
 pub kept_bytes : (text : List (List ℕ)) (bytes : List ℕ) → bytes ≡ bytes_of text → limit_refusal text ≡ None → length bytes ≤ TEXT_LIMIT
 unfolding limit_refusal
 kept_bytes text bytes b h =
-    let small = leb-true (length (bytes_of text)) TEXT_LIMIT (none_refused (line_long text) (nat_le (length (bytes_of text)) TEXT_LIMIT) (error.TooLong (length (bytes_of text))) h) in
+    let small = leb-true (length (bytes_of text)) TEXT_LIMIT
+    (none_refused (line_long text) (nat_le (length (bytes_of text)) TEXT_LIMIT) (error.TooLong (length (bytes_of text))) h) in
     subst (λ x. length x ≤ TEXT_LIMIT) (sym b) small
 
 -- what is written where the text has this refusal, or has none

@@ -1,7 +1,8 @@
 ghost use Rattle.std.specs.Prelude.{◌≡◌, ◌≢◌, ◌++◌, ◌<◌, ◌≤◌, ◌^◌, IfOk, MatchResult, decimal, length};
 ghost use Rattle.mp_base.specs.Text.{bytes_of, lines_of};
 ghost use Rattle.mp_script.specs.Meaning.{wants_of};
-ghost use Rattle.mp_session.specs.Replies.{back_reply, edit_reply, input_reply, list_reply, list_transcript, meant_version, one_line, refusal_line, reply, text_reply, version_line};
+ghost use Rattle.mp_session.specs.Replies.{back_reply, edit_reply, input_reply, list_reply, list_transcript, meant_version};
+ghost use Rattle.mp_session.specs.Replies.{one_line, refusal_line, reply, text_reply, version_line};
 ghost use Rattle.mp_text.specs.Edits.{new_lines};
 
 use crate::listing::text_listing;

@@ -9,7 +9,11 @@ use Rattle.mp_cli.proofs.scripts.finish.Goals as goal
 pub returns-in_err-take_line-clause-partly : goal.returns-in_err-take_line-clause-partly
 returns-in_err-take_line-clause-partly g c =
     let p = c.in_err-take_line.ensures.partly in
-    of_error c.from_residual.result _ (p.0, p.1, part_line (standing c.args.session.now.state c.args.waiting.now) c.args.lines c.in-Some.line p.0 c.in-Some.ensures.0 c.in-Some.ensures.1 p.2)
+    of_error c.from_residual.result _ (
+      p.0,
+      p.1,
+      part_line (standing c.args.session.now.state c.args.waiting.now) c.args.lines c.in-Some.line p.0 c.in-Some.ensures.0 c.in-Some.ensures.1 p.2,
+    )
 
 pub returns-in-On-clause-partly : goal.returns-in-On-clause-partly
 returns-in-On-clause-partly g c =

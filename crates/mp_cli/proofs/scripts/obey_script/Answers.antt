@@ -4,7 +4,8 @@ use Rattle.mp_base.specs.declared.limits.TheConstants.{SCRIPT_LIMIT}
 use Rattle.mp_edge.proofs.ToldLemmas.{grows_none, grows_more, consumes_none, consumes_more}
 use Rattle.mp_session.specs.Replies.{View}
 use Rattle.mp_cli.specs.Talk.{last_bytes, standing}
-use Rattle.mp_cli.proofs.ScriptLemmas.{reached_none, led, reached_more, quit_more, quit_all, quits, written_so_far, front_all, part_more, ended, part_end, grows_back, consumes_back, no_quit, cut_count, last_read, last_unanswered, last_empty, last_nothing}
+use Rattle.mp_cli.proofs.ScriptLemmas.{reached_none, led, reached_more, quit_more, quit_all, quits, written_so_far, front_all, part_more, ended}
+use Rattle.mp_cli.proofs.ScriptLemmas.{part_end, grows_back, consumes_back, no_quit, cut_count, last_read, last_unanswered, last_empty, last_nothing}
 use Rattle.mp_cli.proofs.scripts.obey_script.Goals as goal
 
 pub reads-init : goal.reads-init
@@ -107,7 +108,17 @@ reads-preserved g c =
       within = omega (arith, lt, c.read.auto.buf, length-take {A = ℕ}, c.min-room.ensures);
       buffer = omega (arith, c.read.auto.buf, length-take {A = ℕ}, length-drop {A = ℕ}, length-append {A = ℕ}, c.min-room.ensures, c.reads.invariant.buffer);
       waits = c.in-Ok-On.ensures.open;
-      room = omega (arith, c.reads.invariant.room, c.in-Ok-On.ensures.count, cut_count (c.reads.lines ++ piece), length-append c.reads.lines piece, length-take c.in-Bytes.count c.read.new.buf, lt, ap length w, ap length r);
+      room = omega (
+        arith,
+        c.reads.invariant.room,
+        c.in-Ok-On.ensures.count,
+        cut_count (c.reads.lines ++ piece),
+        length-append c.reads.lines piece,
+        length-take c.in-Bytes.count c.read.new.buf,
+        lt,
+        ap length w,
+        ap length r,
+      );
       source_later = omega (arith, c.in-Bytes.ensures.later, c.reads.invariant.source_later);
       sink_later = omega (arith, c.in-Ok-On.ensures.sink.later, c.reads.invariant.sink_later);
       source_failures = c.in-Bytes.ensures.failures ∙ c.reads.invariant.source_failures;
@@ -229,4 +240,13 @@ take_lines-requires-clause-count g c =
     let lt = c.in-Bytes.ensures.within.0 in
     let w = rw take-append-le at c.in-Ok-feed.ensures.lines in
     let full : c.reads.taken + c.in-Bytes.count ≤ SCRIPT_LIMIT = omega (arith, lt, c.read.auto.buf, length-take {A = ℕ}, c.min-room.ensures) in
-    omega (arith, full, c.reads.invariant.room, cut_count (c.reads.lines ++ piece), length-append c.reads.lines piece, length-take c.in-Bytes.count c.read.new.buf, lt, ap length w)
+    omega (
+      arith,
+      full,
+      c.reads.invariant.room,
+      cut_count (c.reads.lines ++ piece),
+      length-append c.reads.lines piece,
+      length-take c.in-Bytes.count c.read.new.buf,
+      lt,
+      ap length w,
+    )

@@ -22,7 +22,8 @@ loop-line-preserved g c =
       told = (
         h.0 ++ (step (standing c.loop-line.session.state c.loop-line.waiting) c.in-Some.line).bytes,
         grows_more _ _ _ h.0 _ h.1 c.in_ok-take_line.ensures.written,
-        line_on h.0 (standing c.loop-line.session.state c.loop-line.waiting) (standing c.take_line.new.session.state c.take_line.new.waiting) c.in-Some.line (into_iter_items c.next.new.self) h.2 s.0 n,
+        line_on h.0 (standing c.loop-line.session.state c.loop-line.waiting)
+            (standing c.take_line.new.session.state c.take_line.new.waiting) c.in-Some.line (into_iter_items c.next.new.self) h.2 s.0 n,
       );
     }
 
@@ -47,16 +48,22 @@ returns-in_err-take_line-clause-partly g c =
     let h = c.loop-line.invariant.told in
     let s = c.in-Some.ensures.steps in
     let p = c.in_err-take_line.ensures.partly in
-    of_error c.from_residual.result _ (h.0 ++ p.0, grows_more _ _ _ h.0 p.0 h.1 p.1, line_part h.0 p.0 (standing c.loop-line.session.state c.loop-line.waiting) c.in-Some.line (into_iter_items c.next.new.self) h.2 s.0 p.2)
+    of_error c.from_residual.result _ (
+      h.0 ++ p.0,
+      grows_more _ _ _ h.0 p.0 h.1 p.1,
+      line_part h.0 p.0 (standing c.loop-line.session.state c.loop-line.waiting) c.in-Some.line (into_iter_items c.next.new.self) h.2 s.0 p.2,
+    )
 
 pub returns-clause-now : goal.returns-clause-now
 returns-clause-now g c =
     let h = c.loop-line.invariant.told in
     let e : into_iter_items c.loop-line.line-iterator ≡ [] = none_left _ (omega (arith, c.in-None.ensures.steps.0, c.loop-line.invariant.count)) in
-    ap (λ (r : Ran). r.now) (sym h.2 ∙ ap (after (record { bytes = h.0; now = Some (standing c.loop-line.session.state c.loop-line.waiting) })) e ∙ after_none (record { bytes = h.0; now = Some (standing c.loop-line.session.state c.loop-line.waiting) }))
+    ap (λ (r : Ran). r.now) (sym h.2 ∙ ap (after (record { bytes = h.0; now = Some (standing c.loop-line.session.state c.loop-line.waiting) })) e
+    ∙ after_none (record { bytes = h.0; now = Some (standing c.loop-line.session.state c.loop-line.waiting) }))
 
 pub returns-clause-written : goal.returns-clause-written
 returns-clause-written g c =
     let h = c.loop-line.invariant.told in
     let e : into_iter_items c.loop-line.line-iterator ≡ [] = none_left _ (omega (arith, c.in-None.ensures.steps.0, c.loop-line.invariant.count)) in
-    rw (sym h.2 ∙ ap (after (record { bytes = h.0; now = Some (standing c.loop-line.session.state c.loop-line.waiting) })) e ∙ after_none (record { bytes = h.0; now = Some (standing c.loop-line.session.state c.loop-line.waiting) })) h.1
+    rw (sym h.2 ∙ ap (after (record { bytes = h.0; now = Some (standing c.loop-line.session.state c.loop-line.waiting) })) e
+    ∙ after_none (record { bytes = h.0; now = Some (standing c.loop-line.session.state c.loop-line.waiting) })) h.1

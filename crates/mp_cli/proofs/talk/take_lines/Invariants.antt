@@ -14,5 +14,7 @@ invariant-loop-line g l = record {
   later : g.K.Sink.faults l.fn.sink ≤ g.K.Sink.faults l.sink;
   failures : g.K.Sink.failures l.sink ≡ g.K.Sink.failures l.fn.sink;
   quiet : g.K.Sink.quiet l.fn.sink → g.K.Sink.quiet l.sink × (g.K.Sink.faults l.sink ≡ g.K.Sink.faults l.fn.sink);
-  told : (bytes : List ℕ) × Grows (g.K.Sink.written l.fn.sink) (g.K.Sink.written l.sink) bytes × (after (record { bytes = bytes; now = Some (standing l.session.state l.waiting) }) (into_iter_items l.line-iterator) ≡ after (from (standing l.fn.session.state l.fn.waiting)) l.fn.lines);
+  told : (bytes : List ℕ) × Grows (g.K.Sink.written l.fn.sink) (g.K.Sink.written l.sink) bytes
+      × (after (record { bytes = bytes; now = Some (standing l.session.state l.waiting) }) (into_iter_items l.line-iterator)
+      ≡ after (from (standing l.fn.session.state l.fn.waiting)) l.fn.lines);
 }

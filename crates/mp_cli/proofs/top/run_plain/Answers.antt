@@ -8,4 +8,7 @@ pub returns-in-None-clause-met : goal.returns-in-None-clause-met
 returns-in-None-clause-met g c = rw (sym c.form_of.ensures ∙ c.in-None.is) (met_nothing _ _ _)
 
 pub returns-in-Some-Serial-clause-complete : goal.returns-in-Some-Serial-clause-complete
-returns-in-Some-Serial-clause-complete g c = rw (sym c.form_of.ensures ∙ c.in-Some-Serial.is, c.in-Some-Serial.field-0-is) (λ r w. completes_serial c.serial.result _ _ _ _ _ _ c.serial.ensures.met (λ e. r (c.serial.ensures.source.cause (ap read_failed_at e))) (λ e. w (c.serial.ensures.sink.cause (ap write_failed_at e))))
+returns-in-Some-Serial-clause-complete g c =
+    rw (sym c.form_of.ensures ∙ c.in-Some-Serial.is, c.in-Some-Serial.field-0-is)
+    (λ r w. completes_serial c.serial.result _ _ _ _ _ _ c.serial.ensures.met (λ e. r (c.serial.ensures.source.cause (ap read_failed_at e)))
+    (λ e. w (c.serial.ensures.sink.cause (ap write_failed_at e))))

@@ -12,9 +12,11 @@ text_listing-requires-clause-few c = kept_bytes (lines_of c.args.text.now) c.arg
 pub returns-in-None : goal.returns-in-None
 returns-in-None c =
     let text = lines_of c.args.text.now in
-    IfOk-weaker c.text_listing.result (λ bytes. bytes ≡ text_listing text) (λ bytes. bytes ≡ list_transcript text) (λ bytes. listed_so text None bytes (sym c.in-None.is ∙ c.limit_refusal.ensures)) c.text_listing.ensures
+    IfOk-weaker c.text_listing.result (λ bytes. bytes ≡ text_listing text) (λ bytes. bytes ≡ list_transcript text)
+    (λ bytes. listed_so text None bytes (sym c.in-None.is ∙ c.limit_refusal.ensures)) c.text_listing.ensures
 
 pub returns-in-Some : goal.returns-in-Some
 returns-in-Some c =
     let text = lines_of c.args.text.now in
-    IfOk-weaker c.refusal_line.result (λ bytes. bytes ≡ refusal_line c.in-Some.error 0) (λ bytes. bytes ≡ list_transcript text) (λ bytes. listed_so text (Some c.in-Some.error) bytes (sym c.in-Some.is ∙ c.limit_refusal.ensures)) c.refusal_line.ensures
+    IfOk-weaker c.refusal_line.result (λ bytes. bytes ≡ refusal_line c.in-Some.error 0) (λ bytes. bytes ≡ list_transcript text)
+    (λ bytes. listed_so text (Some c.in-Some.error) bytes (sym c.in-Some.is ∙ c.limit_refusal.ensures)) c.refusal_line.ensures

@@ -26,7 +26,8 @@ loop-byte-preserved c =
 pub returns-else-before-lt-LINE_LIMIT : goal.returns-else-before-lt-LINE_LIMIT
 returns-else-before-lt-LINE_LIMIT c =
     let text = c.args.text.now in
-    sym (long_at_stop c.loop-byte.line c.loop-byte.before text c.loop-byte.byte-index c.loop-byte-test.true (ne_eqb _ _ c.if-byte-eq10.false) c.if-before-lt-LINE_LIMIT.false) ∙ c.loop-byte.invariant.same ∙ long_from_is text
+    sym (long_at_stop c.loop-byte.line c.loop-byte.before text c.loop-byte.byte-index c.loop-byte-test.true
+    (ne_eqb _ _ c.if-byte-eq10.false) c.if-before-lt-LINE_LIMIT.false) ∙ c.loop-byte.invariant.same ∙ long_from_is text
 
 pub returns : goal.returns
 returns c =
