@@ -1,5 +1,5 @@
 -- Cells that are laid over others, one more at a time.
-use Rattle.std.proofs.Common.{◌≡◌, ℕ, ◌+◌, ◌<◌, ◌≤◌, List, [], ◌∷◌, ◌++◌, length, take, drop, set, get_or, replicate, refl, sym, ap, ap₂, ◌∙◌, arith, length-append, length-drop, append_assoc, zero, suc, subst}
+use Rattle.std.proofs.Common.{◌≡◌, ℕ, ◌+◌, ◌<◌, ◌≤◌, List, [], ◌∷◌, ◌++◌, length, take, drop, set, get_or, replicate, refl, sym, ap, ap₂, ◌∙◌, arith, length-append, length-drop, append_assoc, subst}
 use Rattle.std.specs.Prelude.{slice_set}
 use Rattle.std.proofs.lemmas.List.{length-replicate, replicate-append-replicate, drop_more, set_at, length-take-le, take_more, take-append-drop}
 use Rattle.mp_memory.specs.declared.cells.Cell.{Cell}
@@ -39,7 +39,7 @@ clear_more cells o i l =
     ∙ ap (laid_over cells o) (replicate-append-replicate i 1 Undef)
 
 pub lay_more : (cells : List Cell) (o : ℕ) (new : List Cell) (i : ℕ) (x : Cell) → o + length new ≤ length cells → i < length new → x ≡ get_or new i x
-  → slice_set (laid_over cells o (take i new)) (o + i) x ≡ laid_over cells o (take (i + 1) new)
+    → slice_set (laid_over cells o (take i new)) (o + i) x ≡ laid_over cells o (take (i + 1) new)
 lay_more cells o new i x l less e =
     ap (λ n. set (laid_over cells o (take i new)) (o + n) x) (sym taken)
     ∙ laid_more cells o (take i new) x (subst (λ n. o + n < length cells) (sym taken) (omega (arith, l, less)))

@@ -1,7 +1,7 @@
 -- Sets as the lists of their members: the operations of the lanes are those of the lists, and the lists' laws.
-use Rattle.std.proofs.Common.{◌≡◌, ◌≢◌, ℕ, zero, suc, ◌+◌, ◌<◌, ◌≤◌, Bool, cond, true, false, not, ◌&&◌, ◌||◌, List, [], ◌∷◌, ◌++◌, filter, refl, sym, ap, ap₂, ◌∙◌, subst, arith, eqb-true, eq-eqb, inl, inr, ⊎_elim}
-use Rattle.std.specs.Prelude.{nat_eq, nat_lt, if◌then◌else◌}
-use Rattle.std.specs.List.{list_all, list_any, range_with_len}
+use Rattle.std.proofs.Common.{◌≡◌, ℕ, zero, suc, ◌+◌, ◌<◌, Bool, cond, true, false, not, ◌&&◌, ◌||◌, List, [], ◌∷◌, ◌++◌, filter, refl, sym, ap, ap₂, ◌∙◌, subst, arith, eqb-true, eq-eqb, inl, inr, ⊎_elim}
+use Rattle.std.specs.Prelude.{nat_eq, if◌then◌else◌}
+use Rattle.std.specs.List.{range_with_len}
 use Rattle.std.proofs.lemmas.Bool.{lt-ltb, and_parts, or_cases}
 use Rattle.std.proofs.lemmas.Bool.Decides.{eqb_tells}
 use Rattle.mp_memory.specs.declared.bits.Bits.{Bits}
@@ -31,7 +31,7 @@ filter_twice f g [] = refl
 filter_twice f g (x ∷ xs) = by_test (f x) (filter_twice f g xs)
   where
     by_test : (b : Bool) → filter g (filter f xs) ≡ filter (λ n. f n && g n) xs
-      → filter g (cond b (x ∷ filter f xs) (filter f xs)) ≡ cond (b && g x) (x ∷ filter (λ n. f n && g n) xs) (filter (λ n. f n && g n) xs)
+        → filter g (cond b (x ∷ filter f xs) (filter f xs)) ≡ cond (b && g x) (x ∷ filter (λ n. f n && g n) xs) (filter (λ n. f n && g n) xs)
     by_test true e = ap (λ l. cond (g x) (x ∷ l) l) e
     by_test false e = e
 
@@ -81,13 +81,13 @@ with_is xs m =
 meet_is : (f : ℕ → Bool) (ys : List ℕ) → common (members_that f) ys ≡ intersection (members_that f) ys
 meet_is f ys =
     filter_same (λ m. bits.is_member (members_that f) m && bits.is_member ys m) (λ n. f n && is_member n ys) 256
-      (λ n l. ap₂ (λ b c. b && c) (member_is (members_that f) n ∙ that_has f n l) (member_is ys n))
+    (λ n l. ap₂ (λ b c. b && c) (member_is (members_that f) n ∙ that_has f n l) (member_is ys n))
     ∙ sym (filter_twice f (λ n. is_member n ys) (numbers 256))
 
 less_is : (f : ℕ → Bool) (ys : List ℕ) → without (members_that f) ys ≡ difference (members_that f) ys
 less_is f ys =
     filter_same (λ m. bits.is_member (members_that f) m && not (bits.is_member ys m)) (λ n. f n && not (is_member n ys)) 256
-      (λ n l. ap₂ (λ b c. b && not c) (member_is (members_that f) n ∙ that_has f n l) (member_is ys n))
+    (λ n l. ap₂ (λ b c. b && not c) (member_is (members_that f) n ∙ that_has f n l) (member_is ys n))
     ∙ sym (filter_twice f (λ n. not (is_member n ys)) (numbers 256))
 
 within_is : (xs ys : List ℕ) → are_in xs ys ≡ is_included xs ys
