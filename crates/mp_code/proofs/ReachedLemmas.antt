@@ -78,7 +78,8 @@ found [] k l = absurd (let v : ⊥ = omega (arith, l) in v)
 found (i ∷ more) zero l = (i, refl)
 found (i ∷ more) (suc k) l = found more k (omega (arith, l))
 
-right_at : (code : BlockCode) (k d : ℕ) (i : Instr) → is_wrong_instruction code k ≡ false → slice_get code.instructions k ≡ Some i → slice_get code.depths k ≡ Some d → is_right code k d i.operation ≡ true
+right_at : (code : BlockCode) (k d : ℕ) (i : Instr) → is_wrong_instruction code k ≡ false → slice_get code.instructions k ≡ Some i → slice_get code.depths k ≡ Some d
+    → is_right code k d i.operation ≡ true
 right_at code k d i e f g =
     ap (instruction_is_right code k (Some i)) (sym g) ∙ ap (λ o. instruction_is_right code k o (slice_get code.depths k)) (sym f)
     ∙ not_false (instruction_is_right code k (slice_get code.instructions k) (slice_get code.depths k)) e
@@ -114,7 +115,8 @@ serves code k d shaped e = with_instruction (found code.instructions k (inside c
         let parts = right_parts code k d s.0.operation (right_at code k d s.0 ((keeps code k (shaped k)).instruction) s.1 (depth_at code d k e)) in
         (s.0, record { instruction = s.1; operands = depth_at code d k e; enough = parts.enough; bare = parts.bare; small = parts.small })
 
-leads : (code : BlockCode) (k d m : ℕ) (i : Instr) → IsShaped code → IsServed code k d i → is_one_of (successors k i.operation) m ≡ true → leads_well code (d - takes i.operation + puts i.operation) m ≡ true
+leads : (code : BlockCode) (k d m : ℕ) (i : Instr) → IsShaped code → IsServed code k d i → is_one_of (successors k i.operation) m ≡ true
+    → leads_well code (d - takes i.operation + puts i.operation) m ≡ true
 leads code k d m i shaped s e =
     let parts = right_parts code k d i.operation (right_at code k d i ((keeps code k (shaped k)).instruction) s.instruction s.operands) in
     all_at (leads_well code (d - takes i.operation + puts i.operation)) (successors k i.operation) m parts.leads e

@@ -70,7 +70,8 @@ least_is_right test (x ∷ xs) = by_test (test x) refl (least_that test xs) (lea
 pub shorter_is_inside : (code : BlockCode) → shorter code ≤ length code.instructions
 shorter_is_inside code = by_test (nat_le (length code.depths) (length code.instructions)) refl
   where
-    by_test : (b : Bool) → nat_le (length code.depths) (length code.instructions) ≡ b → (elim b as (λ is. ℕ) [ true ↦ length code.depths | false ↦ length code.instructions ]) ≤ length code.instructions
+    by_test : (b : Bool) → nat_le (length code.depths) (length code.instructions) ≡ b
+        → (elim b as (λ is. ℕ) [ true ↦ length code.depths | false ↦ length code.instructions ]) ≤ length code.instructions
     by_test true e = grind (arith, e)
     by_test false e = omega arith
 

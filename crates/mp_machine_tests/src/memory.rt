@@ -113,8 +113,8 @@ fn numbers(alloc: Global, cells: Option<&[Cell]>) -> Result<Vec<i64>, Fail> {
 fn a_number_of_a_root_is_never_used_again(rt: HostRuntime) -> Result<(), Fail> {
     let alloc = rt.alloc();
     let mut store = Store::new(alloc);
-    assert_eq!(rt; store.add(alloc, 2)?, 0);
-    assert_eq!(rt; store.add(alloc, 1)?, 1);
+    assert_eq!(rt; store.add(2)?, 0);
+    assert_eq!(rt; store.add(1)?, 1);
     assert_eq!(rt;
         (
             store.is_live(1),
@@ -124,9 +124,9 @@ fn a_number_of_a_root_is_never_used_again(rt: HostRuntime) -> Result<(), Fail> {
         ),
         (true, true, false, false)
     );
-    assert_eq!(rt; store.add(alloc, 1)?, 2);
+    assert_eq!(rt; store.add(1)?, 2);
     assert_eq!(rt; (store.drop_root(0), store.drop_root(9)), (true, false));
-    assert_eq!(rt; store.add(alloc, 0)?, 3);
+    assert_eq!(rt; store.add(0)?, 3);
     assert_eq!(rt;
         (
             number(store.get(0, 0)),
@@ -143,8 +143,8 @@ fn a_number_of_a_root_is_never_used_again(rt: HostRuntime) -> Result<(), Fail> {
 fn cells_are_set_where_they_are(rt: HostRuntime) -> Result<(), Fail> {
     let alloc = rt.alloc();
     let mut store = Store::new(alloc);
-    let first = store.add(alloc, 3)?;
-    let second = store.add(alloc, 3)?;
+    let first = store.add(3)?;
+    let second = store.add(3)?;
     assert_eq!(rt;
         (
             store.set(first, 2, Cell::Int(7)),
@@ -174,7 +174,7 @@ fn cells_are_set_where_they_are(rt: HostRuntime) -> Result<(), Fail> {
 fn ranges_are_copied_whole_or_not_at_all(rt: HostRuntime) -> Result<(), Fail> {
     let alloc = rt.alloc();
     let mut store = Store::new(alloc);
-    let root = store.add(alloc, 5)?;
+    let root = store.add(5)?;
     let new = [Cell::Int(1), Cell::Int(2), Cell::Int(3)];
     assert_eq!(rt;
         (
@@ -219,7 +219,7 @@ fn ranges_are_copied_whole_or_not_at_all(rt: HostRuntime) -> Result<(), Fail> {
 fn a_root_may_have_a_million_cells(rt: HostRuntime) -> Result<(), Fail> {
     let alloc = rt.alloc();
     let mut store = Store::new(alloc);
-    let root = store.add(alloc, 1_000_000)?;
+    let root = store.add(1_000_000)?;
     assert_eq!(rt;
         (
             store.set(root, 999_999, Cell::Int(5)),

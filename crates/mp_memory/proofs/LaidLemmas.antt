@@ -19,7 +19,8 @@ front_length cells o xs l = length-append (take o cells) xs ∙ ap (λ n. n + le
 pub laid_length : (cells : List Cell) (o : ℕ) (xs : List Cell) → o + length xs ≤ length cells → length (laid_over cells o xs) ≡ length cells
 laid_length cells o xs l = length-append (take o cells ++ xs) (drop (o + length xs) cells) ∙ omega (arith, front_length cells o xs l, length-drop (o + length xs) cells, l)
 
-pub laid_more : (cells : List Cell) (o : ℕ) (xs : List Cell) (x : Cell) → o + length xs < length cells → set (laid_over cells o xs) (o + length xs) x ≡ laid_over cells o (xs ++ x ∷ [])
+pub laid_more : (cells : List Cell) (o : ℕ) (xs : List Cell) (x : Cell) → o + length xs < length cells
+    → set (laid_over cells o xs) (o + length xs) x ≡ laid_over cells o (xs ++ x ∷ [])
 laid_more cells o xs x l =
     ap (λ ys. set (front ++ ys) n x) (drop_more cells n x l)
     ∙ set_at front (get_or cells n x) (drop (n + 1) cells) x n (front_length cells o xs (omega (arith, l)))
@@ -32,7 +33,8 @@ laid_more cells o xs x l =
     front : List Cell
     front = take o cells ++ xs
 
-pub clear_more : (cells : List Cell) (o i : ℕ) → o + i < length cells → slice_set (laid_over cells o (replicate i Undef)) (o + i) Undef ≡ laid_over cells o (replicate (i + 1) Undef)
+pub clear_more : (cells : List Cell) (o i : ℕ) → o + i < length cells
+    → slice_set (laid_over cells o (replicate i Undef)) (o + i) Undef ≡ laid_over cells o (replicate (i + 1) Undef)
 clear_more cells o i l =
     ap (λ n. set (laid_over cells o (replicate i Undef)) (o + n) Undef) (sym (length-replicate i Undef))
     ∙ laid_more cells o (replicate i Undef) Undef (subst (λ n. o + n < length cells) (sym (length-replicate i Undef)) l)

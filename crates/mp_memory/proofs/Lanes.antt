@@ -100,10 +100,12 @@ pub is_member_is : (s : Bits) (m : ℕ) → m < 256 → is_member (members s) m 
 is_member_is s m h = member_filter (holds s) 256 m ∙ ap (λ (b : Bool). if b then holds s m else false) (lt-ltb m 256 h)
 
 -- two sets, and a set whose lanes are made of theirs
-pub both_sets : (op : Bool → Bool → Bool) (s t u : Bits) → Lanes u (λ m. op (holds s m) (holds t m)) → members u ≡ filter (λ m. op (is_member (members s) m) (is_member (members t) m)) (numbers 256)
+pub both_sets : (op : Bool → Bool → Bool) (s t u : Bits) → Lanes u (λ m. op (holds s m) (holds t m))
+    → members u ≡ filter (λ m. op (is_member (members s) m) (is_member (members t) m)) (numbers 256)
 both_sets op s t u l = filter_same (holds u) (λ m. op (is_member (members s) m) (is_member (members t) m)) 256 (λ m h. by_lanes u (λ m. op (holds s m) (holds t m)) l m h ∙ sym (ap₂ op (is_member_is s m h) (is_member_is t m h)))
 
-pub by_bits : (op : Bool → Bool → Bool) (f : ℕ → ℕ → ℕ) (s t : Bits) → ((a b i : ℕ) → i < 64 → bit (f a b) i ≡ op (bit a i) (bit b i)) → Lanes (record { first = f s.first t.first; second = f s.second t.second; third = f s.third t.third; fourth = f s.fourth t.fourth }) (λ m. op (holds s m) (holds t m))
+pub by_bits : (op : Bool → Bool → Bool) (f : ℕ → ℕ → ℕ) (s t : Bits) → ((a b i : ℕ) → i < 64 → bit (f a b) i ≡ op (bit a i) (bit b i))
+    → Lanes (record { first = f s.first t.first; second = f s.second t.second; third = f s.third t.third; fourth = f s.fourth t.fourth }) (λ m. op (holds s m) (holds t m))
 by_bits op f s t h =
     let a = own_lanes s in
     let b = own_lanes t in
@@ -120,7 +122,8 @@ union_is s t = both_sets (λ x y. x || y) s t _ (by_bits (λ x y. x || y) bit_or
 pub meet_is : (s t : Bits) → members (record { first = bit_and s.first t.first; second = bit_and s.second t.second; third = bit_and s.third t.third; fourth = bit_and s.fourth t.fourth }) ≡ common (members s) (members t)
 meet_is s t = both_sets (λ x y. x && y) s t _ (by_bits (λ x y. x && y) bit_and s t (λ a b i h. bit_and_is a b i))
 
-pub less_is : (s t : Bits) → t.first < 2 ^ 64 → t.second < 2 ^ 64 → t.third < 2 ^ 64 → t.fourth < 2 ^ 64 → members (record { first = bit_and s.first (bit_not w64 t.first); second = bit_and s.second (bit_not w64 t.second); third = bit_and s.third (bit_not w64 t.third); fourth = bit_and s.fourth (bit_not w64 t.fourth) }) ≡ without (members s) (members t)
+pub less_is : (s t : Bits) → t.first < 2 ^ 64 → t.second < 2 ^ 64 → t.third < 2 ^ 64 → t.fourth < 2 ^ 64
+    → members (record { first = bit_and s.first (bit_not w64 t.first); second = bit_and s.second (bit_not w64 t.second); third = bit_and s.third (bit_not w64 t.third); fourth = bit_and s.fourth (bit_not w64 t.fourth) }) ≡ without (members s) (members t)
 less_is s t f1 f2 f3 f4 =
     let a = own_lanes s in
     let b = own_lanes t in
@@ -148,7 +151,8 @@ other_lane j m b x h e = e ∙ ap (λ c. c || x) (sym (ne_eqb j m h))
 more_of : (s u : Bits) (m : ℕ) → Lanes u (λ k. nat_eq k m || holds s k) → members u ≡ with_member (members s) m
 more_of s u m l = filter_same (holds u) (λ k. nat_eq k m || is_member (members s) k) 256 (λ k h. by_lanes u (λ k. nat_eq k m || holds s k) l k h ∙ ap (λ b. nat_eq k m || b) (sym (is_member_is s k h)))
 
-pub with_first : (s : Bits) (m : ℕ) → m < 64 → members (record { first = bit_or s.first (1 * 2 ^ m % 2 ^ 64); second = s.second; third = s.third; fourth = s.fourth }) ≡ with_member (members s) m
+pub with_first : (s : Bits) (m : ℕ) → m < 64
+    → members (record { first = bit_or s.first (1 * 2 ^ m % 2 ^ 64); second = s.second; third = s.third; fourth = s.fourth }) ≡ with_member (members s) m
 with_first s m h =
     let a = own_lanes s in
     more_of s _ m (record {
@@ -158,7 +162,8 @@ with_first s m h =
       fourth = λ i l. other_lane (192 + i) m _ _ (λ e. omega arith) (a.fourth i l);
     })
 
-pub with_second : (s : Bits) (m : ℕ) → 64 ≤ m → m < 128 → members (record { first = s.first; second = bit_or s.second (1 * 2 ^ (m - 64) % 2 ^ 64); third = s.third; fourth = s.fourth }) ≡ with_member (members s) m
+pub with_second : (s : Bits) (m : ℕ) → 64 ≤ m → m < 128
+    → members (record { first = s.first; second = bit_or s.second (1 * 2 ^ (m - 64) % 2 ^ 64); third = s.third; fourth = s.fourth }) ≡ with_member (members s) m
 with_second s m g h =
     let a = own_lanes s in
     more_of s _ m (record {
@@ -168,7 +173,8 @@ with_second s m g h =
       fourth = λ i l. other_lane (192 + i) m _ _ (λ e. omega arith) (a.fourth i l);
     })
 
-pub with_third : (s : Bits) (m : ℕ) → 128 ≤ m → m < 192 → members (record { first = s.first; second = s.second; third = bit_or s.third (1 * 2 ^ (m - 128) % 2 ^ 64); fourth = s.fourth }) ≡ with_member (members s) m
+pub with_third : (s : Bits) (m : ℕ) → 128 ≤ m → m < 192
+    → members (record { first = s.first; second = s.second; third = bit_or s.third (1 * 2 ^ (m - 128) % 2 ^ 64); fourth = s.fourth }) ≡ with_member (members s) m
 with_third s m g h =
     let a = own_lanes s in
     more_of s _ m (record {
@@ -178,7 +184,8 @@ with_third s m g h =
       fourth = λ i l. other_lane (192 + i) m _ _ (λ e. omega arith) (a.fourth i l);
     })
 
-pub with_fourth : (s : Bits) (m : ℕ) → 192 ≤ m → m < 256 → members (record { first = s.first; second = s.second; third = s.third; fourth = bit_or s.fourth (1 * 2 ^ (m - 192) % 2 ^ 64) }) ≡ with_member (members s) m
+pub with_fourth : (s : Bits) (m : ℕ) → 192 ≤ m → m < 256
+    → members (record { first = s.first; second = s.second; third = s.third; fourth = bit_or s.fourth (1 * 2 ^ (m - 192) % 2 ^ 64) }) ≡ with_member (members s) m
 with_fourth s m g h =
     let a = own_lanes s in
     more_of s _ m (record {
