@@ -68,7 +68,8 @@ depth_is d None e = absurd (let v : ⊥ = cc in v)
 depth_is d (Some f) e = ap Some (eqb-true f d e)
 
 inside : (code : BlockCode) (d k : ℕ) → leads_well code d k ≡ true → k < length code.instructions
-inside code d k e = let is : nat_lt k (length code.instructions) ≡ true = (and_parts (nat_lt k (length code.instructions)) (is_depth d (slice_get code.depths k)) e).0 in grind (arith, is)
+inside code d k e = let is : nat_lt k (length code.instructions) ≡ true =
+    (and_parts (nat_lt k (length code.instructions)) (is_depth d (slice_get code.depths k)) e).0 in grind (arith, is)
 
 depth_at : (code : BlockCode) (d k : ℕ) → leads_well code d k ≡ true → slice_get code.depths k ≡ Some d
 depth_at code d k e = depth_is d (slice_get code.depths k) (and_parts (nat_lt k (length code.instructions)) (is_depth d (slice_get code.depths k)) e).1
@@ -92,7 +93,8 @@ record RightParts (code : BlockCode) (k e : ℕ) (o : Operation) : Type 0 where
 
 right_parts : (code : BlockCode) (k e : ℕ) (o : Operation) → is_right code k e o ≡ true → RightParts code k e o
 right_parts code k e o right =
-    by_halves (nat_le (takes o) e && list_all (leads_well code (e - takes o + puts o)) (successors k o)) ((not (is_bare o) || nat_eq e 0) && nat_le e OPERAND_LIMIT) refl refl right
+    by_halves (nat_le (takes o) e && list_all (leads_well code (e - takes o + puts o)) (successors k o))
+    ((not (is_bare o) || nat_eq e 0) && nat_le e OPERAND_LIMIT) refl refl right
   where
     bare_is : (b : Bool) → (not b || nat_eq e 0) ≡ true → b ≡ true → e ≡ 0
     bare_is true h f = eqb-true e 0 h

@@ -118,7 +118,8 @@ in_filter f zs zero h m l e = absurd (omega arith)
 in_filter f zs (suc n) h m l e = which (nat_eq n m) refl (in_filter f zs n)
   where
     split : (are_in (filter f (numbers n)) zs && are_in (cond (f n) (n ∷ []) []) zs) ≡ true
-    split = sym (ap (λ l. are_in (filter f l) zs) (numbers_more n) ∙ ap (λ l. are_in l zs) (filter_both f (numbers n) (n ∷ [])) ∙ are_in_both (filter f (numbers n)) (filter f (n ∷ [])) zs) ∙ h
+    split = sym (ap (λ l. are_in (filter f l) zs) (numbers_more n)
+        ∙ ap (λ l. are_in l zs) (filter_both f (numbers n) (n ∷ [])) ∙ are_in_both (filter f (numbers n)) (filter f (n ∷ [])) zs) ∙ h
 
     both : (a b : Bool) → (a && b) ≡ true → (a ≡ true) × (b ≡ true)
     both true true e = (refl, refl)

@@ -66,11 +66,13 @@ that_is_set f = that_same (λ n. is_member n (members_that f)) f (λ n l. that_h
 
 joined_is : (xs ys : List ℕ) → joined xs ys ≡ union xs ys
 joined_is xs ys =
-    filter_each (λ m. bits.is_member xs m || bits.is_member ys m) (λ n. is_member n xs || is_member n ys) (λ m. ap₂ (λ b c. b || c) (member_is xs m) (member_is ys m)) (numbers 256)
+    filter_each (λ m. bits.is_member xs m || bits.is_member ys m) (λ n. is_member n xs || is_member n ys)
+    (λ m. ap₂ (λ b c. b || c) (member_is xs m) (member_is ys m)) (numbers 256)
 
 with_is : (xs : List ℕ) (m : ℕ) → bits.with_member xs m ≡ with_member xs m
 with_is xs m =
-    filter_each (λ k. nat_eq k m || bits.is_member xs k) (λ n. is_member n xs || is_member n (m ∷ [])) (λ k. ap (λ b. nat_eq k m || b) (member_is xs k) ∙ turned (nat_eq k m) (is_member k xs)) (numbers 256)
+    filter_each (λ k. nat_eq k m || bits.is_member xs k) (λ n. is_member n xs || is_member n (m ∷ []))
+    (λ k. ap (λ b. nat_eq k m || b) (member_is xs k) ∙ turned (nat_eq k m) (is_member k xs)) (numbers 256)
   where
     turned : (b c : Bool) → (b || c) ≡ (c || (b || false))
     turned true true = refl
