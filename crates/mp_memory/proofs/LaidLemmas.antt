@@ -13,7 +13,7 @@ append_none (x ∷ xs) = ap (λ l. x ∷ l) (append_none xs)
 pub laid_none : (cells : List Cell) (o : ℕ) → laid_over cells o [] ≡ cells
 laid_none cells o = ap (λ l. l ++ drop (o + 0) cells) (append_none (take o cells)) ∙ ap (λ n. take o cells ++ drop n cells) (omega arith) ∙ take-append-drop o cells
 
-front_length : (cells : List Cell) (o : ℕ) (xs : List Cell) → o + length xs ≤ length cells → length (take o cells ++ xs) ≡ o + length xs
+pub front_length : (cells : List Cell) (o : ℕ) (xs : List Cell) → o + length xs ≤ length cells → length (take o cells ++ xs) ≡ o + length xs
 front_length cells o xs l = length-append (take o cells) xs ∙ ap (λ n. n + length xs) (length-take-le o cells (omega (arith, l)))
 
 pub laid_length : (cells : List Cell) (o : ℕ) (xs : List Cell) → o + length xs ≤ length cells → length (laid_over cells o xs) ≡ length cells

@@ -8,7 +8,7 @@ use Rattle.mp_memory.specs.declared.bits.Bits.{Bits}
 use Rattle.mp_memory.specs.Members.{holds, members, joined, common, without, are_in}
 use Rattle.mp_memory.specs.Members as bits
 use Rattle.mp_memory.specs.Sets.{numbers, NumbersAreARange, is_member, members_that, union, with_member, intersection, difference, is_included, IsSet, HasMembers, SetsAreByMembersLaw}
-use Rattle.mp_memory.proofs.MemberLists.{numbers_more, numbers_none, member_filter, filter_same}
+use Rattle.mp_memory.proofs.MemberLists.{numbers_more, numbers_none, member_filter, filter_same, are_in_filter}
 
 -- ---- numbers from 0 on
 
@@ -150,5 +150,7 @@ sets_are_by_members a b s t = record {
   intersection = subst (λ set. HasMembers set (λ n. is_member n a && is_member n b)) (sym (meet_set a b s)) (has_members (λ n. is_member n a && is_member n b));
   difference = subst (λ set. HasMembers set (λ n. is_member n a && not (is_member n b))) (sym (less_set a b s)) (has_members (λ n. is_member n a && not (is_member n b)));
   included = λ e n l h. at_member a b e n h;
+  includes = λ h. ap (λ xs. is_included xs b) (sym s) ∙ sym (within_is (members_that (test_of a)) b)
+      ∙ are_in_filter (test_of a) b 256 (λ n l e. member_is b n ∙ h n l e);
   equal = λ e f. sym s ∙ that_same (test_of a) (test_of b) (λ n l. both_ways (is_member n a) (is_member n b) (λ h. at_member a b e n h) (λ h. at_member b a f n h)) ∙ t;
 }
