@@ -101,11 +101,20 @@ joined_is_first code index h = by_both index (least_that (is_wrong_target code) 
 
     by_order : (k m : ℕ) → IsFirst (is_wrong_here code) k → IsLeast (is_wrong_target code) (indexes code) m → (b : Bool) → nat_le k m ≡ b
         → IsFound code (elim b as (λ is. Option ℕ) [ true ↦ Some k | false ↦ Some m ])
-    by_order k m f l true is = record { fails = fails_here code k f.passes; least = λ j less. fails_nowhere code j (f.least j less) (below m l j (let o = at_most k m is in omega (arith, o, less))) }
-    by_order k m f l false is = record { fails = at_label m l; least = λ j less. fails_nowhere code j (f.least j (let o = above k m is in omega (arith, o, less))) (below m l j less) }
+    by_order k m f l true is = record {
+      fails = fails_here code k f.passes;
+      least = λ j less. fails_nowhere code j (f.least j less) (below m l j (let o = at_most k m is in omega (arith, o, less)));
+    }
+    by_order k m f l false is = record {
+      fails = at_label m l;
+      least = λ j less. fails_nowhere code j (f.least j (let o = above k m is in omega (arith, o, less))) (below m l j less);
+    }
 
     by_both : (i o : Option ℕ) → IsIndex code i → IsRight (is_wrong_target code) (indexes code) o → IsFound code (joined i o)
     by_both None None f l = λ k. fails_nowhere code k (f k) (no_label_is_wrong code k (λ stands wrong. l k stands wrong))
     by_both None (Some m) f l = record { fails = at_label m l; least = λ j less. fails_nowhere code j (f j) (below m l j less) }
-    by_both (Some k) None f l = record { fails = fails_here code k f.passes; least = λ j less. fails_nowhere code j (f.least j less) (no_label_is_wrong code j (λ stands wrong. l j stands wrong)) }
+    by_both (Some k) None f l = record {
+      fails = fails_here code k f.passes;
+      least = λ j less. fails_nowhere code j (f.least j less) (no_label_is_wrong code j (λ stands wrong. l j stands wrong));
+    }
     by_both (Some k) (Some m) f l = by_order k m f l (nat_le k m) refl

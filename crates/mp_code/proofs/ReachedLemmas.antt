@@ -68,7 +68,8 @@ depth_is d None e = absurd (let v : ⊥ = cc in v)
 depth_is d (Some f) e = ap Some (eqb-true f d e)
 
 inside : (code : BlockCode) (d k : ℕ) → leads_well code d k ≡ true → k < length code.instructions
-inside code d k e = let is : nat_lt k (length code.instructions) ≡ true = (and_parts (nat_lt k (length code.instructions)) (is_depth d (slice_get code.depths k)) e).0 in grind (arith, is)
+inside code d k e = let is : nat_lt k (length code.instructions) ≡ true =
+    (and_parts (nat_lt k (length code.instructions)) (is_depth d (slice_get code.depths k)) e).0 in grind (arith, is)
 
 depth_at : (code : BlockCode) (d k : ℕ) → leads_well code d k ≡ true → slice_get code.depths k ≡ Some d
 depth_at code d k e = depth_is d (slice_get code.depths k) (and_parts (nat_lt k (length code.instructions)) (is_depth d (slice_get code.depths k)) e).1
@@ -78,7 +79,8 @@ found [] k l = absurd (let v : ⊥ = omega (arith, l) in v)
 found (i ∷ more) zero l = (i, refl)
 found (i ∷ more) (suc k) l = found more k (omega (arith, l))
 
-right_at : (code : BlockCode) (k d : ℕ) (i : Instr) → is_wrong_instruction code k ≡ false → slice_get code.instructions k ≡ Some i → slice_get code.depths k ≡ Some d → is_right code k d i.operation ≡ true
+right_at : (code : BlockCode) (k d : ℕ) (i : Instr) → is_wrong_instruction code k ≡ false → slice_get code.instructions k ≡ Some i → slice_get code.depths k ≡ Some d
+    → is_right code k d i.operation ≡ true
 right_at code k d i e f g =
     ap (instruction_is_right code k (Some i)) (sym g) ∙ ap (λ o. instruction_is_right code k o (slice_get code.depths k)) (sym f)
     ∙ not_false (instruction_is_right code k (slice_get code.instructions k) (slice_get code.depths k)) e
@@ -91,7 +93,8 @@ record RightParts (code : BlockCode) (k e : ℕ) (o : Operation) : Type 0 where
 
 right_parts : (code : BlockCode) (k e : ℕ) (o : Operation) → is_right code k e o ≡ true → RightParts code k e o
 right_parts code k e o right =
-    by_halves (nat_le (takes o) e && list_all (leads_well code (e - takes o + puts o)) (successors k o)) ((not (is_bare o) || nat_eq e 0) && nat_le e OPERAND_LIMIT) refl refl right
+    by_halves (nat_le (takes o) e && list_all (leads_well code (e - takes o + puts o)) (successors k o))
+    ((not (is_bare o) || nat_eq e 0) && nat_le e OPERAND_LIMIT) refl refl right
   where
     bare_is : (b : Bool) → (not b || nat_eq e 0) ≡ true → b ≡ true → e ≡ 0
     bare_is true h f = eqb-true e 0 h
@@ -114,7 +117,8 @@ serves code k d shaped e = with_instruction (found code.instructions k (inside c
         let parts = right_parts code k d s.0.operation (right_at code k d s.0 ((keeps code k (shaped k)).instruction) s.1 (depth_at code d k e)) in
         (s.0, record { instruction = s.1; operands = depth_at code d k e; enough = parts.enough; bare = parts.bare; small = parts.small })
 
-leads : (code : BlockCode) (k d m : ℕ) (i : Instr) → IsShaped code → IsServed code k d i → is_one_of (successors k i.operation) m ≡ true → leads_well code (d - takes i.operation + puts i.operation) m ≡ true
+leads : (code : BlockCode) (k d m : ℕ) (i : Instr) → IsShaped code → IsServed code k d i → is_one_of (successors k i.operation) m ≡ true
+    → leads_well code (d - takes i.operation + puts i.operation) m ≡ true
 leads code k d m i shaped s e =
     let parts = right_parts code k d i.operation (right_at code k d i ((keeps code k (shaped k)).instruction) s.instruction s.operands) in
     all_at (leads_well code (d - takes i.operation + puts i.operation)) (successors k i.operation) m parts.leads e

@@ -56,27 +56,50 @@ least_is_right test (x ∷ xs) = by_test (test x) refl (least_that test xs) (lea
     same_test j b e f = ap test e ∙ f
 
     by_order : (k : ℕ) (b : Bool) → nat_le x k ≡ b → test x ≡ true → IsLeast test xs k → IsRight test (x ∷ xs) (elim b as (λ is. Option ℕ) [ true ↦ Some x | false ↦ Some k ])
-    by_order k true is e h = record { stands = inl refl; passes = e; least = λ j stands passes. ⊎_elim (λ same. omega (arith, same)) (λ further. let l : k ≤ j = h.least j further passes in let m : x ≤ k = grind (arith, is) in omega (arith, l, m)) stands }
-    by_order k false is e h = record { stands = inr h.stands; passes = h.passes; least = λ j stands passes. ⊎_elim (λ same. let m : k ≤ x = grind (arith, is) in omega (arith, m, same)) (λ further. h.least j further passes) stands }
+    by_order k true is e h = record {
+      stands = inl refl;
+      passes = e;
+      least = λ j stands passes. ⊎_elim (λ same. omega (arith, same))
+          (λ further. let l : k ≤ j = h.least j further passes in let m : x ≤ k = grind (arith, is) in omega (arith, l, m)) stands;
+    }
+    by_order k false is e h = record {
+      stands = inr h.stands;
+      passes = h.passes;
+      least = λ j stands passes.
+          ⊎_elim (λ same. let m : k ≤ x = grind (arith, is) in omega (arith, m, same)) (λ further. h.least j further passes) stands;
+    }
 
     by_test : (b : Bool) → test x ≡ b → (o : Option ℕ) → IsRight test xs o → IsRight test (x ∷ xs) (elim b as (λ passes. Option ℕ) [ true ↦ lesser_of x o | false ↦ o ])
-    by_test true e None h = record { stands = inl refl; passes = e; least = λ j stands passes. ⊎_elim (λ same. omega (arith, same)) (λ further. absurd (h j further passes)) stands }
+    by_test true e None h = record {
+      stands = inl refl;
+      passes = e;
+      least = λ j stands passes. ⊎_elim (λ same. omega (arith, same))
+          (λ further. absurd (h j further passes)) stands;
+    }
     by_test true e (Some k) h = by_order k (nat_le x k) refl e h
-    by_test false e None h = λ j stands passes. ⊎_elim (λ same. let w : false ≡ true = sym (same_test j false same e) ∙ passes in let v : ⊥ = cc in v) (λ further. h j further passes) stands
-    by_test false e (Some k) h = record { stands = inr h.stands; passes = h.passes; least = λ j stands passes. ⊎_elim (λ same. let w : false ≡ true = sym (same_test j false same e) ∙ passes in absurd (let v : ⊥ = cc in v)) (λ further. h.least j further passes) stands }
+    by_test false e None h = λ j stands passes. ⊎_elim (λ same. let w : false ≡ true = sym (same_test j false same e) ∙ passes in let v : ⊥ = cc in v)
+        (λ further. h j further passes) stands
+    by_test false e (Some k) h = record {
+      stands = inr h.stands;
+      passes = h.passes;
+      least = λ j stands passes.
+          ⊎_elim (λ same. let w : false ≡ true = sym (same_test j false same e) ∙ passes in absurd (let v : ⊥ = cc in v)) (λ further. h.least j further passes) stands;
+    }
 
 -- ---- an index at which a clause fails is a suspect
 
 pub shorter_is_inside : (code : BlockCode) → shorter code ≤ length code.instructions
 shorter_is_inside code = by_test (nat_le (length code.depths) (length code.instructions)) refl
   where
-    by_test : (b : Bool) → nat_le (length code.depths) (length code.instructions) ≡ b → (elim b as (λ is. ℕ) [ true ↦ length code.depths | false ↦ length code.instructions ]) ≤ length code.instructions
+    by_test : (b : Bool) → nat_le (length code.depths) (length code.instructions) ≡ b
+        → (elim b as (λ is. ℕ) [ true ↦ length code.depths | false ↦ length code.instructions ]) ≤ length code.instructions
     by_test true e = grind (arith, e)
     by_test false e = omega arith
 
 pub labelled : (labels : List (ℕ × ℕ)) (k : ℕ) → list_any (λ pair. nat_eq pair.1 k) labels ≡ true → StandsIn k (map (λ pair. pair.1) labels)
 labelled [] k e = let w : false ≡ true = e in let v : ⊥ = cc in v
-labelled (p ∷ more) k e = ⊎_elim (λ here. inl (grind (arith, here))) (λ further. inr (labelled more k further)) (or_cases (nat_eq p.1 k) (list_any (λ pair. nat_eq pair.1 k) more) e)
+labelled (p ∷ more) k e = ⊎_elim (λ here. inl (grind (arith, here)))
+    (λ further. inr (labelled more k further)) (or_cases (nat_eq p.1 k) (list_any (λ pair. nat_eq pair.1 k) more) e)
 
 -- past the end no clause fails but that on labels
 pub right_past_the_end : (code : BlockCode) (k : ℕ) → length code.instructions < k → ((is_wrong_start code k || is_wrong_length code k) || is_wrong_instruction code k) ≡ false
@@ -100,7 +123,8 @@ right_past_the_end code k l = all_false (is_wrong_start code k) (is_wrong_length
     no_instruction : is_wrong_instruction code k ≡ true → ⊥
     no_instruction is =
         let none : slice_get code.instructions k ≡ None = slice_get_past code.instructions k (omega (arith, l)) in
-        let right : not (instruction_is_right code k None (slice_get code.depths k)) ≡ true = subst (λ i. not (instruction_is_right code k i (slice_get code.depths k)) ≡ true) none is in
+        let right : not (instruction_is_right code k None (slice_get code.depths k)) ≡ true =
+        subst (λ i. not (instruction_is_right code k i (slice_get code.depths k)) ≡ true) none is in
         let w : false ≡ true = right in
         let v : ⊥ = cc in v
 
@@ -121,7 +145,8 @@ suspected code k e = by_test (nat_le k (length code.instructions)) refl
     by_test : (b : Bool) → nat_le k (length code.instructions) ≡ b → StandsIn k (suspects code)
     by_test true is =
         let l : k ≤ length code.instructions = grind (arith, is) in
-        in_left k (range_with_len 0 (length code.instructions + 1)) (map (λ pair. pair.1) code.labels) (in_range 0 (length code.instructions + 1) k (omega arith) (omega (arith, l)))
+        in_left k (range_with_len 0 (length code.instructions + 1)) (map (λ pair. pair.1) code.labels)
+        (in_range 0 (length code.instructions + 1) k (omega arith) (omega (arith, l)))
     by_test false is =
         let l : length code.instructions < k = grind (arith, is) in
         in_right k (range_with_len 0 (length code.instructions + 1)) (map (λ pair. pair.1) code.labels) (past_the_end code k l e)
@@ -136,4 +161,8 @@ first_bad_is_least code = by_found (first_bad code) (least_is_right (fails_at co
 
     by_found : (o : Option ℕ) → IsRight (fails_at code) (suspects code) o → MatchOption o (IsShaped code) (λ k. IsFirstBad code k)
     by_found None h = λ j. or_not j (λ e. h j (suspected code j e) e) (fails_at code j) refl
-    by_found (Some k) h = record { fails = h.passes; least = λ j l. or_not j (λ e. let m : k ≤ j = h.least j (suspected code j e) e in let v : ⊥ = omega (arith, m, l) in v) (fails_at code j) refl }
+    by_found (Some k) h = record {
+      fails = h.passes;
+      least = λ j l. or_not j
+          (λ e. let m : k ≤ j = h.least j (suspected code j e) e in let v : ⊥ = omega (arith, m, l) in v) (fails_at code j) refl;
+    }

@@ -15,7 +15,7 @@ pub struct BadCode {
 }
 
 /// The code of a block, which has the shape that the machine relies on. It never changes; users share it behind an
-/// `Arc`. To a contract it is its [`BlockCode`](../specs/BlockCode.antt).
+/// `Arc`. To a contract it is its plain data, a `BlockCode`.
 #[derive(Drop)]
 pub struct Code {
     draft: Draft,

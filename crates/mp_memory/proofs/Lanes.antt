@@ -66,7 +66,8 @@ by_lanes u g l m h = one (nat_lt m 64) refl
     two true e f = let less = ltb-true m 128 e in l.second (m - 64) (omega arith) ∙ ap g (omega arith)
     two false e f = three (nat_lt m 192) refl (ltb-false m 128 e)
 
-    one : (b : Bool) → nat_lt m 64 ≡ b → (if b then bit u.first m else if nat_lt m 128 then bit u.second (m - 64) else if nat_lt m 192 then bit u.third (m - 128) else bit u.fourth (m - 192)) ≡ g m
+    one : (b : Bool) → nat_lt m 64 ≡ b → (if b then bit u.first m else if nat_lt m 128 then bit u.second (m - 64)
+        else if nat_lt m 192 then bit u.third (m - 128) else bit u.fourth (m - 192)) ≡ g m
     one true e = l.first m (ltb-true m 64 e)
     one false e = two (nat_lt m 128) refl (ltb-false m 64 e)
 
@@ -100,10 +101,13 @@ pub is_member_is : (s : Bits) (m : ℕ) → m < 256 → is_member (members s) m 
 is_member_is s m h = member_filter (holds s) 256 m ∙ ap (λ (b : Bool). if b then holds s m else false) (lt-ltb m 256 h)
 
 -- two sets, and a set whose lanes are made of theirs
-pub both_sets : (op : Bool → Bool → Bool) (s t u : Bits) → Lanes u (λ m. op (holds s m) (holds t m)) → members u ≡ filter (λ m. op (is_member (members s) m) (is_member (members t) m)) (numbers 256)
-both_sets op s t u l = filter_same (holds u) (λ m. op (is_member (members s) m) (is_member (members t) m)) 256 (λ m h. by_lanes u (λ m. op (holds s m) (holds t m)) l m h ∙ sym (ap₂ op (is_member_is s m h) (is_member_is t m h)))
+pub both_sets : (op : Bool → Bool → Bool) (s t u : Bits) → Lanes u (λ m. op (holds s m) (holds t m))
+    → members u ≡ filter (λ m. op (is_member (members s) m) (is_member (members t) m)) (numbers 256)
+both_sets op s t u l = filter_same (holds u) (λ m. op (is_member (members s) m) (is_member (members t) m)) 256
+    (λ m h. by_lanes u (λ m. op (holds s m) (holds t m)) l m h ∙ sym (ap₂ op (is_member_is s m h) (is_member_is t m h)))
 
-pub by_bits : (op : Bool → Bool → Bool) (f : ℕ → ℕ → ℕ) (s t : Bits) → ((a b i : ℕ) → i < 64 → bit (f a b) i ≡ op (bit a i) (bit b i)) → Lanes (record { first = f s.first t.first; second = f s.second t.second; third = f s.third t.third; fourth = f s.fourth t.fourth }) (λ m. op (holds s m) (holds t m))
+pub by_bits : (op : Bool → Bool → Bool) (f : ℕ → ℕ → ℕ) (s t : Bits) → ((a b i : ℕ) → i < 64 → bit (f a b) i ≡ op (bit a i) (bit b i))
+    → Lanes (record { first = f s.first t.first; second = f s.second t.second; third = f s.third t.third; fourth = f s.fourth t.fourth }) (λ m. op (holds s m) (holds t m))
 by_bits op f s t h =
     let a = own_lanes s in
     let b = own_lanes t in
@@ -114,13 +118,29 @@ by_bits op f s t h =
       fourth = λ i l. h s.fourth t.fourth i l ∙ ap₂ op (a.fourth i l) (b.fourth i l);
     }
 
-pub union_is : (s t : Bits) → members (record { first = bit_or s.first t.first; second = bit_or s.second t.second; third = bit_or s.third t.third; fourth = bit_or s.fourth t.fourth }) ≡ joined (members s) (members t)
+pub union_is : (s t : Bits) → members (record {
+  first = bit_or s.first t.first;
+  second = bit_or s.second t.second;
+  third = bit_or s.third t.third;
+  fourth = bit_or s.fourth t.fourth;
+}) ≡ joined (members s) (members t)
 union_is s t = both_sets (λ x y. x || y) s t _ (by_bits (λ x y. x || y) bit_or s t (λ a b i h. bit_or_is a b i))
 
-pub meet_is : (s t : Bits) → members (record { first = bit_and s.first t.first; second = bit_and s.second t.second; third = bit_and s.third t.third; fourth = bit_and s.fourth t.fourth }) ≡ common (members s) (members t)
+pub meet_is : (s t : Bits) → members (record {
+  first = bit_and s.first t.first;
+  second = bit_and s.second t.second;
+  third = bit_and s.third t.third;
+  fourth = bit_and s.fourth t.fourth;
+}) ≡ common (members s) (members t)
 meet_is s t = both_sets (λ x y. x && y) s t _ (by_bits (λ x y. x && y) bit_and s t (λ a b i h. bit_and_is a b i))
 
-pub less_is : (s t : Bits) → t.first < 2 ^ 64 → t.second < 2 ^ 64 → t.third < 2 ^ 64 → t.fourth < 2 ^ 64 → members (record { first = bit_and s.first (bit_not w64 t.first); second = bit_and s.second (bit_not w64 t.second); third = bit_and s.third (bit_not w64 t.third); fourth = bit_and s.fourth (bit_not w64 t.fourth) }) ≡ without (members s) (members t)
+pub less_is : (s t : Bits) → t.first < 2 ^ 64 → t.second < 2 ^ 64 → t.third < 2 ^ 64 → t.fourth < 2 ^ 64
+    → members (record {
+      first = bit_and s.first (bit_not w64 t.first);
+      second = bit_and s.second (bit_not w64 t.second);
+      third = bit_and s.third (bit_not w64 t.third);
+      fourth = bit_and s.fourth (bit_not w64 t.fourth);
+    }) ≡ without (members s) (members t)
 less_is s t f1 f2 f3 f4 =
     let a = own_lanes s in
     let b = own_lanes t in
@@ -146,9 +166,11 @@ other_lane : (j m : ℕ) (b x : Bool) → j ≢ m → b ≡ x → b ≡ (nat_eq 
 other_lane j m b x h e = e ∙ ap (λ c. c || x) (sym (ne_eqb j m h))
 
 more_of : (s u : Bits) (m : ℕ) → Lanes u (λ k. nat_eq k m || holds s k) → members u ≡ with_member (members s) m
-more_of s u m l = filter_same (holds u) (λ k. nat_eq k m || is_member (members s) k) 256 (λ k h. by_lanes u (λ k. nat_eq k m || holds s k) l k h ∙ ap (λ b. nat_eq k m || b) (sym (is_member_is s k h)))
+more_of s u m l = filter_same (holds u) (λ k. nat_eq k m || is_member (members s) k) 256
+    (λ k h. by_lanes u (λ k. nat_eq k m || holds s k) l k h ∙ ap (λ b. nat_eq k m || b) (sym (is_member_is s k h)))
 
-pub with_first : (s : Bits) (m : ℕ) → m < 64 → members (record { first = bit_or s.first (1 * 2 ^ m % 2 ^ 64); second = s.second; third = s.third; fourth = s.fourth }) ≡ with_member (members s) m
+pub with_first : (s : Bits) (m : ℕ) → m < 64
+    → members (record { first = bit_or s.first (1 * 2 ^ m % 2 ^ 64); second = s.second; third = s.third; fourth = s.fourth }) ≡ with_member (members s) m
 with_first s m h =
     let a = own_lanes s in
     more_of s _ m (record {
@@ -158,7 +180,8 @@ with_first s m h =
       fourth = λ i l. other_lane (192 + i) m _ _ (λ e. omega arith) (a.fourth i l);
     })
 
-pub with_second : (s : Bits) (m : ℕ) → 64 ≤ m → m < 128 → members (record { first = s.first; second = bit_or s.second (1 * 2 ^ (m - 64) % 2 ^ 64); third = s.third; fourth = s.fourth }) ≡ with_member (members s) m
+pub with_second : (s : Bits) (m : ℕ) → 64 ≤ m → m < 128
+    → members (record { first = s.first; second = bit_or s.second (1 * 2 ^ (m - 64) % 2 ^ 64); third = s.third; fourth = s.fourth }) ≡ with_member (members s) m
 with_second s m g h =
     let a = own_lanes s in
     more_of s _ m (record {
@@ -168,7 +191,8 @@ with_second s m g h =
       fourth = λ i l. other_lane (192 + i) m _ _ (λ e. omega arith) (a.fourth i l);
     })
 
-pub with_third : (s : Bits) (m : ℕ) → 128 ≤ m → m < 192 → members (record { first = s.first; second = s.second; third = bit_or s.third (1 * 2 ^ (m - 128) % 2 ^ 64); fourth = s.fourth }) ≡ with_member (members s) m
+pub with_third : (s : Bits) (m : ℕ) → 128 ≤ m → m < 192
+    → members (record { first = s.first; second = s.second; third = bit_or s.third (1 * 2 ^ (m - 128) % 2 ^ 64); fourth = s.fourth }) ≡ with_member (members s) m
 with_third s m g h =
     let a = own_lanes s in
     more_of s _ m (record {
@@ -178,7 +202,8 @@ with_third s m g h =
       fourth = λ i l. other_lane (192 + i) m _ _ (λ e. omega arith) (a.fourth i l);
     })
 
-pub with_fourth : (s : Bits) (m : ℕ) → 192 ≤ m → m < 256 → members (record { first = s.first; second = s.second; third = s.third; fourth = bit_or s.fourth (1 * 2 ^ (m - 192) % 2 ^ 64) }) ≡ with_member (members s) m
+pub with_fourth : (s : Bits) (m : ℕ) → 192 ≤ m → m < 256
+    → members (record { first = s.first; second = s.second; third = s.third; fourth = bit_or s.fourth (1 * 2 ^ (m - 192) % 2 ^ 64) }) ≡ with_member (members s) m
 with_fourth s m g h =
     let a = own_lanes s in
     more_of s _ m (record {
@@ -194,7 +219,8 @@ tested lane k = ap (λ n. nat_eq n 1) (shr_and_one lane k)
 
 -- the set without members
 none_holds : (m : ℕ) → m < 256 → holds (record { first = 0; second = 0; third = 0; fourth = 0 }) m ≡ false
-none_holds m h = by_lanes (record { first = 0; second = 0; third = 0; fourth = 0 }) (λ m. false) (record { first = λ i l. no_bit i; second = λ i l. no_bit i; third = λ i l. no_bit i; fourth = λ i l. no_bit i }) m h
+none_holds m h = by_lanes (record { first = 0; second = 0; third = 0; fourth = 0 })
+    (λ m. false) (record { first = λ i l. no_bit i; second = λ i l. no_bit i; third = λ i l. no_bit i; fourth = λ i l. no_bit i }) m h
   where
     no_bit : (i : ℕ) → bit 0 i ≡ false
     no_bit i = ap (λ n. nat_eq n 1) (bit_at-zero i)
@@ -224,7 +250,8 @@ bit_number a b i e = go (bit_at a i) (bit_at b i) (bit_at-lt a i) (bit_at-lt b i
         (of_bits (λ n. nat_eq 1 1 ≡ nat_eq n 1 → 1 ≡ n) (λ e. absurd (let h : ⊥ = cc in h)) (λ e. refl) n l) m h
 
 lane_included : (a b : ℕ) → a < 2 ^ 64 → b < 2 ^ 64 → ((i : ℕ) → i < 64 → bit a i ≡ true → bit b i ≡ true) → bit_or a b ≡ b
-lane_included a b f g h = same_from_bits_below 64 (bit_or a b) b (or_lt 64 a b f g) g (λ i l. bit_number (bit_or a b) b i (bit_or_is a b i ∙ or_absorbs (bit a i) (bit b i) (h i l)))
+lane_included a b f g h = same_from_bits_below 64 (bit_or a b) b (or_lt 64 a b f g) g
+    (λ i l. bit_number (bit_or a b) b i (bit_or_is a b i ∙ or_absorbs (bit a i) (bit b i) (h i l)))
 
 inside_of : (s t : Bits) → are_in (members s) (members t) ≡ true → (m : ℕ) → m < 256 → holds s m ≡ true → holds t m ≡ true
 inside_of s t e m h f = sym (is_member_is t m h) ∙ in_filter (holds s) (members t) 256 e m h f

@@ -9,7 +9,8 @@ filter_both : (f : ℕ → Bool) (xs ys : List ℕ) → filter f (xs ++ ys) ≡ 
 filter_both f [] ys = refl
 filter_both f (x ∷ xs) ys = go (f x) (filter_both f xs ys)
   where
-    go : (b : Bool) → filter f (xs ++ ys) ≡ filter f xs ++ filter f ys → cond b (x ∷ filter f (xs ++ ys)) (filter f (xs ++ ys)) ≡ cond b (x ∷ filter f xs) (filter f xs) ++ filter f ys
+    go : (b : Bool) → filter f (xs ++ ys) ≡ filter f xs ++ filter f ys
+        → cond b (x ∷ filter f (xs ++ ys)) (filter f (xs ++ ys)) ≡ cond b (x ∷ filter f xs) (filter f xs) ++ filter f ys
     go true e = ap (λ l. x ∷ l) e
     go false e = e
 
@@ -17,7 +18,8 @@ member_both : (xs ys : List ℕ) (m : ℕ) → is_member (xs ++ ys) m ≡ (is_me
 member_both [] ys m = refl
 member_both (x ∷ xs) ys m = go (nat_eq x m) (member_both xs ys m)
   where
-    go : (b : Bool) → is_member (xs ++ ys) m ≡ (is_member xs m || is_member ys m) → (if b then true else is_member (xs ++ ys) m) ≡ ((if b then true else is_member xs m) || is_member ys m)
+    go : (b : Bool) → is_member (xs ++ ys) m ≡ (is_member xs m || is_member ys m)
+        → (if b then true else is_member (xs ++ ys) m) ≡ ((if b then true else is_member xs m) || is_member ys m)
     go true e = refl
     go false e = e
 
@@ -116,7 +118,8 @@ in_filter f zs zero h m l e = absurd (omega arith)
 in_filter f zs (suc n) h m l e = which (nat_eq n m) refl (in_filter f zs n)
   where
     split : (are_in (filter f (numbers n)) zs && are_in (cond (f n) (n ∷ []) []) zs) ≡ true
-    split = sym (ap (λ l. are_in (filter f l) zs) (numbers_more n) ∙ ap (λ l. are_in l zs) (filter_both f (numbers n) (n ∷ [])) ∙ are_in_both (filter f (numbers n)) (filter f (n ∷ [])) zs) ∙ h
+    split = sym (ap (λ l. are_in (filter f l) zs) (numbers_more n)
+        ∙ ap (λ l. are_in l zs) (filter_both f (numbers n) (n ∷ [])) ∙ are_in_both (filter f (numbers n)) (filter f (n ∷ [])) zs) ∙ h
 
     both : (a b : Bool) → (a && b) ≡ true → (a ≡ true) × (b ≡ true)
     both true true e = (refl, refl)

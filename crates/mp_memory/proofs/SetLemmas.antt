@@ -1,14 +1,14 @@
 -- Sets as the lists of their members: the operations of the lanes are those of the lists, and the lists' laws.
-use Rattle.std.proofs.Common.{◌≡◌, ◌≢◌, ℕ, zero, suc, ◌+◌, ◌<◌, ◌≤◌, Bool, cond, true, false, not, ◌&&◌, ◌||◌, List, [], ◌∷◌, ◌++◌, filter, refl, sym, ap, ap₂, ◌∙◌, subst, arith, eqb-true, eq-eqb, inl, inr, ⊎_elim}
-use Rattle.std.specs.Prelude.{nat_eq, nat_lt, if◌then◌else◌}
-use Rattle.std.specs.List.{list_all, list_any, range_with_len}
+use Rattle.std.proofs.Common.{◌≡◌, ℕ, zero, suc, ◌+◌, ◌<◌, Bool, cond, true, false, not, ◌&&◌, ◌||◌, List, [], ◌∷◌, ◌++◌, filter, refl, sym, ap, ap₂, ◌∙◌, subst, arith, eqb-true, eq-eqb, inl, inr, ⊎_elim}
+use Rattle.std.specs.Prelude.{nat_eq, if◌then◌else◌}
+use Rattle.std.specs.List.{range_with_len}
 use Rattle.std.proofs.lemmas.Bool.{lt-ltb, and_parts, or_cases}
 use Rattle.std.proofs.lemmas.Bool.Decides.{eqb_tells}
 use Rattle.mp_memory.specs.declared.bits.Bits.{Bits}
 use Rattle.mp_memory.specs.Members.{holds, members, joined, common, without, are_in}
 use Rattle.mp_memory.specs.Members as bits
 use Rattle.mp_memory.specs.Sets.{numbers, NumbersAreARange, is_member, members_that, union, with_member, intersection, difference, is_included, IsSet, HasMembers, SetsAreByMembersLaw}
-use Rattle.mp_memory.proofs.MemberLists.{numbers_more, numbers_none, member_filter, filter_same}
+use Rattle.mp_memory.proofs.MemberLists.{numbers_more, numbers_none, member_filter, filter_same, are_in_filter}
 
 -- ---- numbers from 0 on
 
@@ -31,7 +31,7 @@ filter_twice f g [] = refl
 filter_twice f g (x ∷ xs) = by_test (f x) (filter_twice f g xs)
   where
     by_test : (b : Bool) → filter g (filter f xs) ≡ filter (λ n. f n && g n) xs
-      → filter g (cond b (x ∷ filter f xs) (filter f xs)) ≡ cond (b && g x) (x ∷ filter (λ n. f n && g n) xs) (filter (λ n. f n && g n) xs)
+        → filter g (cond b (x ∷ filter f xs) (filter f xs)) ≡ cond (b && g x) (x ∷ filter (λ n. f n && g n) xs) (filter (λ n. f n && g n) xs)
     by_test true e = ap (λ l. cond (g x) (x ∷ l) l) e
     by_test false e = e
 
@@ -66,11 +66,13 @@ that_is_set f = that_same (λ n. is_member n (members_that f)) f (λ n l. that_h
 
 joined_is : (xs ys : List ℕ) → joined xs ys ≡ union xs ys
 joined_is xs ys =
-    filter_each (λ m. bits.is_member xs m || bits.is_member ys m) (λ n. is_member n xs || is_member n ys) (λ m. ap₂ (λ b c. b || c) (member_is xs m) (member_is ys m)) (numbers 256)
+    filter_each (λ m. bits.is_member xs m || bits.is_member ys m) (λ n. is_member n xs || is_member n ys)
+    (λ m. ap₂ (λ b c. b || c) (member_is xs m) (member_is ys m)) (numbers 256)
 
 with_is : (xs : List ℕ) (m : ℕ) → bits.with_member xs m ≡ with_member xs m
 with_is xs m =
-    filter_each (λ k. nat_eq k m || bits.is_member xs k) (λ n. is_member n xs || is_member n (m ∷ [])) (λ k. ap (λ b. nat_eq k m || b) (member_is xs k) ∙ turned (nat_eq k m) (is_member k xs)) (numbers 256)
+    filter_each (λ k. nat_eq k m || bits.is_member xs k) (λ n. is_member n xs || is_member n (m ∷ []))
+    (λ k. ap (λ b. nat_eq k m || b) (member_is xs k) ∙ turned (nat_eq k m) (is_member k xs)) (numbers 256)
   where
     turned : (b c : Bool) → (b || c) ≡ (c || (b || false))
     turned true true = refl
@@ -81,13 +83,13 @@ with_is xs m =
 meet_is : (f : ℕ → Bool) (ys : List ℕ) → common (members_that f) ys ≡ intersection (members_that f) ys
 meet_is f ys =
     filter_same (λ m. bits.is_member (members_that f) m && bits.is_member ys m) (λ n. f n && is_member n ys) 256
-      (λ n l. ap₂ (λ b c. b && c) (member_is (members_that f) n ∙ that_has f n l) (member_is ys n))
+    (λ n l. ap₂ (λ b c. b && c) (member_is (members_that f) n ∙ that_has f n l) (member_is ys n))
     ∙ sym (filter_twice f (λ n. is_member n ys) (numbers 256))
 
 less_is : (f : ℕ → Bool) (ys : List ℕ) → without (members_that f) ys ≡ difference (members_that f) ys
 less_is f ys =
     filter_same (λ m. bits.is_member (members_that f) m && not (bits.is_member ys m)) (λ n. f n && not (is_member n ys)) 256
-      (λ n l. ap₂ (λ b c. b && not c) (member_is (members_that f) n ∙ that_has f n l) (member_is ys n))
+    (λ n l. ap₂ (λ b c. b && not c) (member_is (members_that f) n ∙ that_has f n l) (member_is ys n))
     ∙ sym (filter_twice f (λ n. not (is_member n ys)) (numbers 256))
 
 within_is : (xs ys : List ℕ) → are_in xs ys ≡ is_included xs ys
@@ -148,5 +150,7 @@ sets_are_by_members a b s t = record {
   intersection = subst (λ set. HasMembers set (λ n. is_member n a && is_member n b)) (sym (meet_set a b s)) (has_members (λ n. is_member n a && is_member n b));
   difference = subst (λ set. HasMembers set (λ n. is_member n a && not (is_member n b))) (sym (less_set a b s)) (has_members (λ n. is_member n a && not (is_member n b)));
   included = λ e n l h. at_member a b e n h;
+  includes = λ h. ap (λ xs. is_included xs b) (sym s) ∙ sym (within_is (members_that (test_of a)) b)
+      ∙ are_in_filter (test_of a) b 256 (λ n l e. member_is b n ∙ h n l e);
   equal = λ e f. sym s ∙ that_same (test_of a) (test_of b) (λ n l. both_ways (is_member n a) (is_member n b) (λ h. at_member a b e n h) (λ h. at_member b a f n h)) ∙ t;
 }

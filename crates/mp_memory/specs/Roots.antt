@@ -1,5 +1,5 @@
 -- The cells under a root, and what is found there.
-use Rattle.std.specs.Prelude.{◌≡◌, ℕ, ◌+◌, ◌≤◌, Bool, true, false, List, ◌++◌, length, take, drop, Option, Some, None, nat_eq, nat_le, slice_get}
+use Rattle.std.specs.Prelude.{◌≡◌, ℕ, ◌+◌, ◌<◌, ◌≤◌, Bool, true, false, List, ◌++◌, length, take, drop, Option, Some, None, nat_eq, nat_le, slice_get}
 use Rattle.std.specs.BTreeMap.{is_at}
 use Rattle.std.specs.Map.{lookup}
 use Rattle.std.specs.Ordering.{nat_cmp}
@@ -34,6 +34,16 @@ cells_at (Some cells) o n = elim (nat_le (o + n) (length cells)) as (λ fit. Fou
 
 abbrev pub laid_over : List Cell → ℕ → List Cell → List Cell
 laid_over cells o new = take o cells ++ new ++ drop (o + length new) cells
+
+-- Of the cells after, those from the offset on are the new ones, and all others are as they were.
+pub record IsLaidOver (cells : List Cell) (o : ℕ) (new after : List Cell) : Type 0 where
+  pub as_many : length after ≡ length cells
+  pub before : (k : ℕ) → k < o → slice_get after k ≡ slice_get cells k
+  pub inside : (k : ℕ) → k < length new → slice_get after (o + k) ≡ slice_get new k
+  pub behind : (k : ℕ) → o + length new ≤ k → slice_get after k ≡ slice_get cells k
+
+abbrev pub CellsAreLaidOver : Type 0
+CellsAreLaidOver = (cells : List Cell) (o : ℕ) (new : List Cell) → o + length new ≤ length cells → IsLaidOver cells o new (laid_over cells o new)
 
 -- the cells with these in place of those from the offset on
 abbrev pub with_cells : Option (List Cell) → ℕ → List Cell → Found (List Cell)

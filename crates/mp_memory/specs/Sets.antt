@@ -49,6 +49,7 @@ pub record SetsAreByMembers (a b : List ℕ) : Type 0 where
   pub intersection : HasMembers (intersection a b) (λ n. is_member n a && is_member n b)
   pub difference : HasMembers (difference a b) (λ n. is_member n a && not (is_member n b))
   pub included : is_included a b ≡ true → (n : ℕ) → n < 256 → is_member n a ≡ true → is_member n b ≡ true
+  pub includes : ((n : ℕ) → n < 256 → is_member n a ≡ true → is_member n b ≡ true) → is_included a b ≡ true
   pub equal : is_included a b ≡ true → is_included b a ≡ true → a ≡ b
 
 abbrev pub SetsAreByMembersLaw : Type 0

@@ -131,4 +131,3 @@ fn covers(lane: u64, other: u64) -> bool
 {
     other | lane == lane
 }
-

@@ -1,4 +1,9 @@
-//! The memory of a run: cells, the roots that they stand under, and sets.
+//! The memory of a run: cells, the roots that they stand under, sets, and integers.
+//!
+//! [`Store`] is a map from the numbers of roots, which are never given twice, to lists of cells: it promises what is
+//! found under each root and what each call leaves there. [`MemberSet`] is a set of numbers below 256 on four lanes of
+//! 64 bits, and promises to be the list of its members. Sums and products are exact, or are told to be no integers. What
+//! a cell is used for the crate does not know. It stands on `mp_base`.
 #![tactic(auto)]
 
 mod bits;

@@ -26,7 +26,7 @@ impl Model for Region {
 fn undefined_cells(alloc: Global, count: u32) -> Result<Vec<Cell>, Memory>
     ensures { IfOk result (λ cells. cells.items ≡ replicate count Undef) }
 {
-    let mut cells = Vec::new(alloc);
+    let mut cells = Vec::with_capacity(alloc, count as usize)?;
     'cells: for _ in 0..count {
         cells.push(Cell::Undef)?;
     }

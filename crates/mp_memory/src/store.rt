@@ -10,9 +10,11 @@ use std::collections::BTreeMap;
 use std::marker::Model;
 
 /// The cells of a run, under the roots that live: those of activations, of objects, and that of the required files. A
-/// root's number is never given again.
+/// root's number is never given again. To a contract it is its live roots with their cells, and the number that the
+/// next root will have.
 #[derive(Drop)]
 pub struct Store {
+    alloc: Global,
     live: BTreeMap<u64, Region>,
     next: u64,
 }
@@ -34,13 +36,14 @@ impl Store {
         ensures next { result.next ≡ 0 }
     {
         Store {
+            alloc,
             live: BTreeMap::new(alloc),
             next: 0,
         }
     }
 
     /// A new root of so many undefined cells, and its number.
-    pub fn add(&mut self, alloc: Global, cells: u32) -> Result<u64, Memory>
+    pub fn add(&mut self, cells: u32) -> Result<u64, Memory>
         requires { self.old.next < 2 ^ 64 - 1 }
         ensures number { IfOk result (λ root. root ≡ self.old.next) }
         ensures fresh { IfOk result (λ root. roots_of self.old root ≡ None) }
@@ -49,7 +52,7 @@ impl Store {
         ensures err { OnErr result (self.new ≡ self.old) }
     {
         let number = self.next;
-        let region = Region::new(alloc, cells)?;
+        let region = Region::new(self.alloc, cells)?;
         self.live.insert(number, region)?;
         self.next = number + 1;
         Ok(number)

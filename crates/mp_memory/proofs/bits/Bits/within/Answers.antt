@@ -20,5 +20,6 @@ pub returns : goal.returns
 returns c =
     one_answer _ _ c.covers-4.ensures (
       λ e. fourth_is_in c.args.self.now c.args.other.now e,
-      λ h. all_are_in c.args.self.now c.args.other.now (c.covers.ensures.0 c.if-not-covers.false) (c.covers-2.ensures.0 c.if-not-covers-2.false) (c.covers-3.ensures.0 c.if-not-covers-3.false) h,
+      λ h. all_are_in c.args.self.now c.args.other.now (c.covers.ensures.0 c.if-not-covers.false) (c.covers-2.ensures.0 c.if-not-covers-2.false)
+          (c.covers-3.ensures.0 c.if-not-covers-3.false) h,
     )

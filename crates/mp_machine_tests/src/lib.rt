@@ -1,0 +1,10 @@
+//! The tests of the crates that the machine is made of, a file for each crate.
+//!
+//! They ask for what no clause says: that calls succeed while memory is found, and that codes, cells and sets that were
+//! worked out by hand are answered as they should be. The crate has no items beside its tests.
+#![tactic(auto)]
+
+#[cfg(test)]
+mod code;
+#[cfg(test)]
+mod memory;
