@@ -1,8 +1,7 @@
 -- Items as they are kept, by bytes and marks.
-use Rattle.std.proofs.Common.{◌≡◌, ℕ, zero, suc, ◌+◌, ◌<◌, ◌≤◌, Bool, true, false, ◌==◌, ◌&&◌, not, cond, List, [], ◌∷◌, ◌++◌, length, map, get_or, refl, ap, sym, ◌∙◌, inl, inr, arith, Option, Some, None}
+use Rattle.std.proofs.Common.{◌≡◌, ℕ, zero, suc, ◌+◌, ◌<◌, ◌≤◌, Bool, true, false, ◌==◌, ◌&&◌, not, cond, List, [], ◌∷◌, ◌++◌, length, get_or, refl, ap, sym, ◌∙◌, inl, inr, arith, Some, None}
 use Rattle.std.proofs.lemmas.Bool.{cases_eq, ne_eqb, eq-eqb}
 use Rattle.std.specs.Prelude.{slice_get}
-use Rattle.mp_files.specs.declared.items.Item.{Item}
 use Rattle.mp_files.specs.declared.items.Item.TheVariants.{Character, LineEnd}
 use Rattle.mp_files.specs.Items.{byte_of, bytes_of, characters, item_of, items_of}
 use Rattle.mp_files.specs.Stored.{AreMarked, NoneMarked, is_marked, item_kept, items_kept, marked_item}

@@ -1,13 +1,12 @@
 -- Worked cases of the definitions, found by computation: each call in each state of a file, each fault and limit, and of
 -- two causes the first.
-use Rattle.std.specs.Prelude.{◌≡◌, ℕ, ◌+◌, Bool, true, false, List, [], ◌∷◌, ◌++◌, map, Option, Some, None, ℤ, pos, negsuc, codes}
+use Rattle.std.specs.Prelude.{◌≡◌, ℕ, true, false, List, [], ◌∷◌, ◌++◌, map, Some, None, ℤ, pos, negsuc, codes}
 use Rattle.mp_base.specs.declared.limits.TheConstants.{OUTPUT_LIMIT}
-use Rattle.mp_files.specs.declared.causes.FileEnd.{FileEnd}
 use Rattle.mp_files.specs.declared.causes.FileEnd.TheVariants.{Fault, Limit}
 use Rattle.mp_files.specs.declared.items.Item.{Item}
 use Rattle.mp_files.specs.declared.items.Item.TheVariants.{Character, LineEnd}
 use Rattle.mp_files.specs.Items.{characters, items_of}
-use Rattle.mp_files.specs.TextFiles.{FileCall, FileState, Gives, Fails, TextFile, Closed, Reading, Writing, closed_file, eof, eoln, file_to_read, get, input_file, output_file, page_items, read_line, read_number, reset, rewrite, shown, write_items}
+use Rattle.mp_files.specs.TextFiles.{FileCall, Gives, Fails, TextFile, Reading, Writing, closed_file, eof, eoln, get, input_file, output_file, page_items, read_line, read_number, reset, rewrite, shown, write_items}
 use Rattle.mp_files.specs.WrittenFields.{character_field, integer_field, truth_field, width_refusal}
 use Rattle.mp_files.specs.RunFiles.{RunFiles, after_reset, after_rewrite, after_writing, starting, write_refusal}
 

@@ -1,6 +1,6 @@
 -- How a text file is kept: a byte for each item, and a bit for each place at which a character may have the number 10.
 -- Only private functions cite this, and the models of private types.
-use Rattle.std.specs.Prelude.{◌≡◌, ℕ, suc, ◌+◌, ◌*◌, ◌/◌, ◌%◌, ◌<◌, ◌≤◌, Bool, true, false, ◌==◌, ◌&&◌, not, if◌then◌else◌, List, [], ◌∷◌, ◌++◌, take, drop, length, slice_index, Option}
+use Rattle.std.specs.Prelude.{◌≡◌, ℕ, suc, ◌+◌, ◌/◌, ◌%◌, ◌<◌, ◌≤◌, Bool, true, false, ◌==◌, ◌&&◌, not, if◌then◌else◌, List, [], ◌∷◌, take, drop, length, slice_index, Option}
 use Rattle.std.specs.Int.{bit_at}
 use Rattle.mp_files.specs.declared.items.Item.{Item}
 use Rattle.mp_files.specs.declared.items.Item.TheVariants.{Character, LineEnd}

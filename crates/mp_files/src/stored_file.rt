@@ -1,6 +1,7 @@
-ghost use Rattle.std.specs.Prelude.{◌≡◌, ◌++◌, IfOk, IfErr, OnOk, OnErr, Some, IsTrue, slice_get};
+ghost use Rattle.std.specs.Prelude.{◌≡◌, ◌++◌, IfOk, IfErr, OnOk, OnErr, Some, IsTrue, slice_get, ◌+◌, ◌<◌, ◌≤◌, ◌^◌};
 ghost use Rattle.mp_files.specs.Items.{bytes_of, characters, items_of};
-ghost use Rattle.mp_files.specs.TextFiles.{Gives, closed_file, contents, eof, eoln, get, input_file, is_unfinished, is_writing, output_file, page_items, read_line, read_number, reset, rewrite, shown, with_written};
+ghost use Rattle.mp_files.specs.TextFiles.{Gives, closed_file, contents, eof, eoln, get, input_file, is_unfinished, is_writing, output_file, page_items, read_line, read_number, reset, rewrite, shown, signed, with_written};
+ghost use Rattle.mp_base.specs.declared.limits.TheConstants.{MAXINT};
 ghost use Rattle.mp_files.specs.RunFiles.{fault_of};
 ghost use Rattle.mp_files.specs.Stored.{file_kept, item_refusal};
 
@@ -41,6 +42,7 @@ impl Model for StoredFile {
 fn next_item(items: &ItemList, place: Place) -> Result<(usize, Item), FileEnd>
     ensures reading { IfOk result (λ next. place ≡ Place.Reading next.0) }
     ensures item { IfOk result (λ next. slice_get items.now next.0 ≡ Some next.1) }
+    ensures more { IfOk result (λ next. next.0 + 1 < 2 ^ 64) }
     ensures refused { IfErr result (λ e. item_refusal (file_kept items.now place) ≡ Some e) }
 {
     let Place::Reading(at) = place else {
@@ -49,6 +51,29 @@ fn next_item(items: &ItemList, place: Place) -> Result<(usize, Item), FileEnd>
     match items.get(at) {
         Some(item) => Ok((at, item)),
         None => Err(FileEnd::Fault(END_OF_FILE)),
+    }
+}
+
+// The number of this value, with a minus sign or without.
+fn signed(negative: bool, value: u64) -> i64
+    requires { value ≤ MAXINT }
+    ensures { result ≡ signed negative value }
+{
+    let value = value as i64;
+    if negative { -value } else { value }
+}
+
+// Whether the last line has no line end.
+fn is_unfinished(items: &ItemList) -> bool
+    ensures { result ≡ is_unfinished items.now }
+{
+    let len = items.len();
+    if len == 0 {
+        return false;
+    }
+    match items.get(len - 1) {
+        Some(item) => !item.is_line_end(),
+        None => false,
     }
 }
 
@@ -175,32 +200,14 @@ impl StoredFile {
             return Err(FileEnd::Fault(INTEGER_OVERFLOW));
         }
         self.place = Place::Reading(end);
-        Ok(if first.is_minus() {
-            -(value as i64)
-        } else {
-            value as i64
-        })
-    }
-
-    // Whether the last line has no line end.
-    fn is_unfinished(&self) -> bool
-        ensures { result ≡ is_unfinished (contents self.now) }
-    {
-        let len = self.items.len();
-        if len == 0 {
-            return false;
-        }
-        match self.items.get(len - 1) {
-            Some(item) => !item.is_line_end(),
-            None => false,
-        }
+        Ok(signed(first.is_minus(), value))
     }
 
     pub(crate) fn reset(&mut self) -> Result<(), Memory>
         ensures ok { OnOk result (self.new ≡ reset self.old) }
         ensures err { OnErr result (self.new ≡ self.old) }
     {
-        if self.is_unfinished() {
+        if is_unfinished(&self.items) {
             self.items.add_text(b"\n")?;
         }
         self.place = Place::Reading(0);
@@ -246,7 +253,7 @@ impl StoredFile {
         requires { IsTrue (is_writing self.now.state) }
         ensures { items_of result.now ≡ page_items self.now }
     {
-        if self.is_unfinished() {
+        if is_unfinished(&self.items) {
             b"\n\x0c"
         } else {
             b"\x0c"

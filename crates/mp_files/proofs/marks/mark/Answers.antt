@@ -1,4 +1,3 @@
-use Rattle.std.proofs.Common.{◌≡◌}
 use Rattle.mp_files.proofs.MarkLemmas.{marked-set}
 use Rattle.mp_files.proofs.marks.mark.Goals as goal
 

@@ -1,4 +1,4 @@
-use Rattle.std.proofs.Common.{rules, ◌≡◌, ◌+◌, ◌*◌, ◌≤◌, ◌++◌, [], length, ℕ, ◌-◌, ◌<◌, List, ◌∷◌, refl, ap, sym, ◌∙◌, subst, arith, Some, None, drop, take, min}
+use Rattle.std.proofs.Common.{◌≡◌, ◌+◌, sym, ◌∙◌, arith, drop}
 use Rattle.std.specs.List.{prefix_len}
 use Rattle.mp_files.specs.Stored.{is_of}
 use Rattle.mp_files.proofs.ReadingLemmas.{prefix_on, prefix_stops, prefix_end}

@@ -1,4 +1,4 @@
-use Rattle.std.proofs.Common.{◌≡◌, ◌+◌, ◌-◌, ◌≤◌, drop, length}
+use Rattle.std.proofs.Common.{◌≡◌, ◌+◌, ◌-◌, drop, length}
 use Rattle.std.specs.List.{prefix_len}
 use Rattle.mp_files.specs.Stored.{is_of}
 use Rattle.mp_files.proofs.reading.end_of.Given as goal

@@ -1,4 +1,4 @@
-use Rattle.std.proofs.Common.{rules, ◌≡◌, ◌+◌, ◌*◌, ◌≤◌, ◌++◌, [], length, ℕ, ◌-◌, ◌<◌, List, ◌∷◌, refl, ap, sym, ◌∙◌, subst, arith, Some, None, drop, take, min}
+use Rattle.std.proofs.Common.{◌+◌, ap, sym, ◌∙◌, arith}
 use Rattle.mp_files.proofs.ReadingLemmas.{sign_on, sign_off, sign_past}
 use Rattle.mp_files.proofs.reading.sign_end.Goals as goal
 

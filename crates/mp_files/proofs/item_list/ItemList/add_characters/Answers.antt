@@ -1,4 +1,4 @@
-use Rattle.std.proofs.Common.{rules, ◌≡◌, ◌+◌, ◌*◌, ◌≤◌, ◌++◌, [], length, ℕ, ◌-◌, ◌<◌, List, ◌∷◌, refl, ap, sym, ◌∙◌, subst, arith, Some, None, drop, take, min}
+use Rattle.std.proofs.Common.{◌≡◌, ◌++◌, length, ap, ◌∙◌, subst}
 use Rattle.mp_files.specs.Items.{characters}
 use Rattle.mp_files.specs.Stored.{AreMarked, items_kept}
 use Rattle.mp_files.proofs.ItemLemmas.{characters_added}

@@ -1,4 +1,4 @@
-use Rattle.std.proofs.Common.{rules, ◌≡◌, ◌+◌, ◌*◌, ◌≤◌, ◌++◌, [], length, ℕ, ◌-◌, ◌<◌, List, ◌∷◌, refl, ap, sym, ◌∙◌, arith, Some, None}
+use Rattle.std.proofs.Common.{◌++◌, ap, ◌∙◌}
 use Rattle.mp_files.specs.Items.{items_of}
 use Rattle.mp_files.specs.Stored.{items_kept}
 use Rattle.mp_files.proofs.ItemLemmas.{text_added}

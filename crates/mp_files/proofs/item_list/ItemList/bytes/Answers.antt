@@ -1,4 +1,4 @@
-use Rattle.std.proofs.Common.{rules, ◌≡◌, ◌+◌, ◌*◌, ◌≤◌, ◌++◌, [], length, ℕ, ◌-◌, ◌<◌, List, ◌∷◌, refl, ap, sym, ◌∙◌, arith, Some, None}
+use Rattle.std.proofs.Common.{ap, sym, ◌∙◌}
 use Rattle.mp_files.specs.Items.{bytes_of}
 use Rattle.mp_files.proofs.ItemLemmas.{bytes-kept}
 use Rattle.mp_files.proofs.item_list.ItemList.bytes.Goals as goal

@@ -1,4 +1,4 @@
-use Rattle.std.proofs.Common.{rules, ◌≡◌, ◌+◌, ◌*◌, ◌≤◌, ◌++◌, [], length, ℕ, ◌-◌, ◌<◌, List, ◌∷◌, refl, ap, sym, ◌∙◌, subst, arith, Some, None, drop, take, min}
+use Rattle.std.proofs.Common.{length, ap, sym, ◌∙◌}
 use Rattle.mp_files.proofs.ItemLemmas.{length-kept}
 use Rattle.mp_files.proofs.item_list.ItemList.len.Goals as goal
 

@@ -1,7 +1,5 @@
-use Rattle.std.proofs.Common.{rules, ◌≡◌, ◌+◌, ◌*◌, ◌≤◌, ◌++◌, [], length, ℕ, ◌-◌, ◌<◌, List, ◌∷◌, ◌%◌, ◌==◌, refl, ap, sym, ◌∙◌, arith, Some, None}
-use Rattle.mp_files.specs.Stored.{items_kept}
+use Rattle.std.proofs.Common.{[], ◌%◌, ◌==◌, ap}
 use Rattle.mp_files.proofs.ItemLemmas.{kept_text}
-use Rattle.mp_files.specs.Items.{items_of}
 use Rattle.std.proofs.lemmas.Nat.Bits.{bit_at-zero}
 use Rattle.mp_files.proofs.item_list.ItemList.of.Goals as goal
 
