@@ -1,4 +1,5 @@
 ghost use Rattle.std.specs.Prelude.{◌≡◌, IfOk, length};
+ghost use Rattle.std.specs.Cmp.Lexicographic.{pointwise, lists_per};
 
 use mp_base::Memory;
 use sqlite_items::Items;
@@ -23,6 +24,16 @@ impl<T> Model for Shared<T> {
     ghost coded = { coded_list T.code };
 
     ghost view = { λ shared. arc_value shared.items };
+}
+
+impl<T: PartialEq> PartialEq for Shared<T> {
+    ghost eq = { pointwise T.eq };
+
+    ghost laws = { lists_per T.laws };
+
+    fn eq(&self, other: &Shared<T>) -> bool {
+        self.items.as_slice() == other.items.as_slice()
+    }
 }
 
 impl<T> Shared<T> {
