@@ -1,1 +1,3 @@
 pub mod SumLemmas
+pub mod FieldLemmas
+pub mod ValueLemmas

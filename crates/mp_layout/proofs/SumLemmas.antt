@@ -1,5 +1,5 @@
 -- A saturated sum is the exact sum, saturated once: what holds of sizes and offsets follows from the exact sums.
-use Rattle.std.proofs.Common.{◌≡◌, ℕ, ◌+◌, ◌*◌, ◌<◌, ◌≤◌, suc, List, [], ◌∷◌, ◌++◌, length, get_or, take, drop, refl, sym, ap, ◌∙◌, subst, arith, append_assoc, length-append}
+use Rattle.std.proofs.Common.{◌≡◌, ℕ, ◌+◌, ◌*◌, ◌<◌, ◌≤◌, zero, suc, List, [], ◌∷◌, ◌++◌, length, get_or, take, drop, refl, sym, ap, ◌∙◌, subst, arith, append_assoc, length-append}
 use Rattle.std.proofs.lemmas.List.{take-take}
 use Rattle.std.proofs.lemmas.List.Sums.{sum_by-cons, sum_by-append, sum_by-take-le, sum_by_more}
 use Rattle.std.specs.List.{sum}
@@ -44,16 +44,19 @@ pub length-offsets_from : (start : ℕ) (sizes : List ℕ) → length (offsets_f
 length-offsets_from start [] = refl
 length-offsets_from start (n ∷ sizes) = ap suc (length-offsets_from (saturated (start + n)) sizes)
 
+pub length-offsets : (sizes : List ℕ) → length (offsets sizes) ≡ length sizes
+length-offsets sizes = length-offsets_from 0 sizes
+
 pub get_or-offsets_from : (start : ℕ) (sizes : List ℕ) (at : ℕ) → start ≤ CELL_LIMIT + 1 → at < length sizes → get_or (offsets_from start sizes) at 0 ≡ saturated (start + sum (take at sizes))
 get_or-offsets_from start [] at s h = absurd (omega arith)
-get_or-offsets_from start (n ∷ sizes) 0 s h = omega arith
+get_or-offsets_from start (n ∷ sizes) zero s h = omega arith
 get_or-offsets_from start (n ∷ sizes) (suc at) s h =
     get_or-offsets_from (saturated (start + n)) sizes at (omega arith) (omega arith)
     ∙ saturated-outer (start + n) (sum (take at sizes))
     ∙ ap saturated (omega (arith, sum-cons n (take at sizes)))
 
 pub offset_is : (sizes : List ℕ) → EachOffsetIsTheSumBefore sizes
-offset_is sizes at h = get_or-offsets_from 0 sizes at (omega arith) h
+offset_is sizes at h = get_or-offsets_from 0 sizes at (omega arith) h ∙ ap saturated (omega arith)
 
 pub offsets_from-append : (start : ℕ) (sizes : List ℕ) (n : ℕ) → start ≤ CELL_LIMIT + 1 → offsets_from start (sizes ++ n ∷ []) ≡ offsets_from start sizes ++ saturated (start + sum_of sizes) ∷ []
 offsets_from-append start [] n s = ap (λ k. k ∷ []) (omega arith)

@@ -1,5 +1,5 @@
-ghost use Rattle.std.specs.Prelude.{◌≡◌, ◌≤◌, ◌+◌, ◌*◌, ℕ, nat_abs};
-ghost use Rattle.mp_base.specs.declared.limits.TheConstants.{MAXINT};
+ghost use Rattle.std.specs.Prelude.{◌≡◌, ◌≤◌, ◌+◌, ◌*◌, nat_abs};
+ghost use Rattle.mp_base.specs.declared.limits.TheConstants.{CELL_LIMIT, MAXINT};
 ghost use Rattle.mp_tables.specs.Sizes as size;
 ghost use Rattle.mp_layout.specs.Layouts.{ValuesAre};
 
@@ -43,32 +43,32 @@ pub fn values_in(low: i64, high: i64) -> u64
     }
 }
 
-// The number of values between any two numbers, saturated.
-fn counted_values(low: i64, high: i64) -> u32
-    ensures { (values : ℕ) → ValuesAre low high values → result ≡ size.saturated values }
+// The number of values from the least to the greatest, saturated.
+fn counted_values(bounds: &Bounds) -> u32
+    ensures { result ≡ size.saturated (size.values_in bounds.now) }
 {
-    if low <= high {
-        saturated(high.abs_diff(low).saturating_add(1))
+    if bounds.low <= bounds.high {
+        saturated(bounds.high.abs_diff(bounds.low).saturating_add(1))
     } else {
         0
     }
 }
 
-/// The number of cells of an array with this index, whose components have so many cells. One without an index has none.
-pub fn array_cells(index: &Option<Bounds>, size: u32) -> u32
-    ensures { result ≡ size.array_cells index.now size }
+/// The number of cells of an array with this index, each of whose components has so many cells. One without an index has
+/// none.
+pub fn array_cells(index: &Option<Bounds>, component: u32) -> u32
+    ensures { result ≡ size.array_cells index.now component }
 {
     match index {
-        Some(bounds) => {
-            saturated(counted_values(bounds.low, bounds.high) as u64 * size as u64)
-        }
+        Some(bounds) => saturated(counted_values(bounds) as u64 * component as u64),
         None => 0,
     }
 }
 
 /// The sum of these numbers of cells, saturated.
 pub fn sum_of(sizes: &[u32]) -> u32
-    ensures { result ≡ size.sum_of sizes.now }
+    ensures value { result ≡ size.sum_of sizes.now }
+    ensures small { result ≤ CELL_LIMIT + 1 }
 {
     let mut sum = 0;
     for size in sizes {

@@ -38,18 +38,20 @@ pub struct Frames {
     pub depth: u32,
 }
 
-/// The frame of a block. The sizes are the numbers of cells of its parameters, of a function's result and of its
-/// variables, in this order. Behind them stand `extra` cells that do not count.
-pub fn frame(alloc: Global, sizes: &[u32], extra: u32) -> Result<Frame, Memory>
-    requires { extra ≤ CELL_LIMIT }
-    ensures offsets { IfOk result (λ frame. frame.offsets ≡ size.offsets sizes.now) }
-    ensures counted { IfOk result (λ frame. frame.counted ≡ size.sum_of sizes.now) }
-    ensures cells { IfOk result (λ frame. frame.cells ≡ frame.counted + extra) }
-{
-    let counted = sum_of(sizes);
-    Ok(Frame {
-        offsets: offsets(alloc, sizes)?,
-        cells: counted + extra,
-        counted,
-    })
+impl Frame {
+    /// The frame of a block. The sizes are the numbers of cells of its parameters, of a function's result and of its
+    /// variables, in this order. Behind them stand `extra` cells that do not count.
+    pub fn new(alloc: Global, sizes: &[u32], extra: u32) -> Result<Frame, Memory>
+        requires { extra ≤ CELL_LIMIT }
+        ensures offsets { IfOk result (λ frame. frame.offsets ≡ size.offsets sizes.now) }
+        ensures counted { IfOk result (λ frame. frame.counted ≡ size.sum_of sizes.now) }
+        ensures cells { IfOk result (λ frame. frame.cells ≡ size.sum_of sizes.now + extra) }
+    {
+        let counted = sum_of(sizes);
+        Ok(Frame {
+            offsets: offsets(alloc, sizes)?,
+            cells: counted + extra,
+            counted,
+        })
+    }
 }

@@ -13,4 +13,4 @@ pub mod laws;
 
 pub use counts::{array_cells, cells, saturated, sum_of, values_in};
 pub use fields::field;
-pub use frames::{Frame, Frames, frame, offsets};
+pub use frames::{Frame, Frames, offsets};
