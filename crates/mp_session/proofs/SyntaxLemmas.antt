@@ -61,4 +61,6 @@ start_within (token ∷ tokens) (suc index) end h = start_within tokens index en
 pub few_tokens : (text : List ℕ) (tokens : List Token) → AreTokensInOrder text tokens → length tokens ≤ length text
 few_tokens text tokens o =
     subst (λ n. n ≤ length text) (length-map tokens (λ token. token.start))
-    (length-le_from_below (length text) (map (λ token. token.start) tokens) (sorted_from_strictly_increasing (map (λ token. token.start) tokens) o.ascending) (All-map (λ n. n < length text) (λ token. token.start) tokens o.within))
+    (length-le_from_below (length text) (map (λ token. token.start) tokens)
+    (sorted_from_strictly_increasing (map (λ token. token.start) tokens) o.ascending)
+    (All-map (λ n. n < length text) (λ token. token.start) tokens o.within))

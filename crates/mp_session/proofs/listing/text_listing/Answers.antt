@@ -16,13 +16,18 @@ pub returns-then-not-is_empty : goal.returns-then-not-is_empty
 returns-then-not-is_empty c =
     let text = lines_of c.args.text.now in
     let is = c.as_slice.ensures.value ∙ c.in_ok-shown.ensures in
-    rw (erroneous c.args.text.now text c.get-errors.result.now c.requires.ended (c.get-errors.ensures ∙ c.in_ok-lexed.ensures.errors) (some_of (length c.get-errors.result.now) (sym c.is_empty.ensures ∙ c.if-not-is_empty.true)) ∙ ap listing (sym is)) c.listing.ensures
+    rw (erroneous c.args.text.now text c.get-errors.result.now c.requires.ended (c.get-errors.ensures ∙ c.in_ok-lexed.ensures.errors)
+    (some_of (length c.get-errors.result.now) (sym c.is_empty.ensures ∙ c.if-not-is_empty.true)) ∙ ap listing (sym is)) c.listing.ensures
 
 pub parsed_listing-requires-clause-tokens : goal.parsed_listing-requires-clause-tokens
-parsed_listing-requires-clause-tokens c = let few = few_tokens c.args.text.now c.in_ok-lexed.lexed.tokens c.in_ok-lexed.ensures.tokens_in_order in let h = c.requires.few in omega arith
+parsed_listing-requires-clause-tokens c =
+    let few = few_tokens c.args.text.now c.in_ok-lexed.lexed.tokens c.in_ok-lexed.ensures.tokens_in_order in
+    let h = c.requires.few in omega arith
 
 pub returns : goal.returns
 returns c =
     let text = lines_of c.args.text.now in
     let tokens = c.in_ok-lexed.lexed.tokens in
-    rw (parsed c.args.text.now text tokens c.get-errors.result.now c.requires.ended c.in_ok-lexed.ensures.tokens (c.get-errors.ensures ∙ c.in_ok-lexed.ensures.errors) (none_of (length c.get-errors.result.now) (sym c.is_empty.ensures ∙ c.if-not-is_empty.false))) c.parsed_listing.ensures
+    rw (parsed c.args.text.now text tokens c.get-errors.result.now c.requires.ended c.in_ok-lexed.ensures.tokens
+    (c.get-errors.ensures ∙ c.in_ok-lexed.ensures.errors)
+    (none_of (length c.get-errors.result.now) (sym c.is_empty.ensures ∙ c.if-not-is_empty.false))) c.parsed_listing.ensures
