@@ -98,8 +98,9 @@ pub fn tree(out: &mut Written, x: &SharedTree, dots: usize) -> Outcome {
     }
     block(out, x.own().get())?;
     out.add(b"\n")?;
-    for x in x.inside() {
-        tree(out, x, dots.saturating_add(1))?;
+    let inside = x.inside();
+    'inside: for nested in inside {
+        tree(out, nested, dots.saturating_add(1))?;
     }
     Ok(())
 }
