@@ -113,30 +113,30 @@ type_is _ _ = (λ h. absurd (let n : ⊥ = cc in n), λ e. absurd (let n : ⊥ =
 bounds_is : (a b : Bounds) → Decides ((same_bounds.ghosts).eq a b) (a ≡ b)
 bounds_is a b =
     Decides-like _
-      (λ h i. record { host = h.0 i; low = h.1.0 i; high = h.1.1 i })
-      (λ e. (ap (λ x. x.host) e, (ap (λ x. x.low) e, ap (λ x. x.high) e)))
-      (type_is a.host b.host also Decides-int_eq a.low b.low also Decides-int_eq a.high b.high)
+    (λ h i. record { host = h.0 i; low = h.1.0 i; high = h.1.1 i })
+    (λ e. (ap (λ x. x.host) e, (ap (λ x. x.low) e, ap (λ x. x.high) e)))
+    (type_is a.host b.host also Decides-int_eq a.low b.low also Decides-int_eq a.high b.high)
 
 array_is : (a b : ArrayShape) → Decides ((same_array.ghosts).eq a b) (a ≡ b)
 array_is a b =
     Decides-like _
-      (λ h i. record { packed = h.0 i; index = h.1.0 i; component = h.1.1.0 i; size = h.1.1.1.0 i; cells = h.1.1.1.1.0 i; file = h.1.1.1.1.1 i })
-      (λ e. (ap (λ x. x.packed) e, (ap (λ x. x.index) e, (ap (λ x. x.component) e, (ap (λ x. x.size) e, (ap (λ x. x.cells) e, ap (λ x. x.file) e))))))
-      (bool_is a.packed b.packed also option_is bounds_is a.index b.index also option_is type_is a.component b.component also Decides-eqb a.size b.size also Decides-eqb a.cells b.cells also bool_is a.file b.file)
+    (λ h i. record { packed = h.0 i; index = h.1.0 i; component = h.1.1.0 i; size = h.1.1.1.0 i; cells = h.1.1.1.1.0 i; file = h.1.1.1.1.1 i })
+    (λ e. (ap (λ x. x.packed) e, (ap (λ x. x.index) e, (ap (λ x. x.component) e, (ap (λ x. x.size) e, (ap (λ x. x.cells) e, ap (λ x. x.file) e))))))
+    (bool_is a.packed b.packed also option_is bounds_is a.index b.index also option_is type_is a.component b.component also Decides-eqb a.size b.size also Decides-eqb a.cells b.cells also bool_is a.file b.file)
 
 within_is : (a b : Within) → Decides ((same_within.ghosts).eq a b) (a ≡ b)
 within_is a b =
     Decides-like _
-      (λ h i. record { part = h.0 i; variant = h.1 i })
-      (λ e. (ap (λ x. x.part) e, ap (λ x. x.variant) e))
-      (Decides-eqb a.part b.part also Decides-eqb a.variant b.variant)
+    (λ h i. record { part = h.0 i; variant = h.1 i })
+    (λ e. (ap (λ x. x.part) e, ap (λ x. x.variant) e))
+    (Decides-eqb a.part b.part also Decides-eqb a.variant b.variant)
 
 slot_is : (a b : Slot) → Decides ((same_slot.ghosts).eq a b) (a ≡ b)
 slot_is a b =
     Decides-like _
-      (λ h i. record { name = h.0 i; of = h.1.0 i; offset = h.1.1.0 i; cells = h.1.1.1.0 i; within = h.1.1.1.1.0 i; tags = h.1.1.1.1.1 i })
-      (λ e. (ap (λ x. x.name) e, (ap (λ x. x.of) e, (ap (λ x. x.offset) e, (ap (λ x. x.cells) e, (ap (λ x. x.within) e, ap (λ x. x.tags) e))))))
-      (option_is bytes_eq-Decides a.name b.name also option_is type_is a.of b.of also Decides-eqb a.offset b.offset also Decides-eqb a.cells b.cells also option_is within_is a.within b.within also option_is Decides-eqb a.tags b.tags)
+    (λ h i. record { name = h.0 i; of = h.1.0 i; offset = h.1.1.0 i; cells = h.1.1.1.0 i; within = h.1.1.1.1.0 i; tags = h.1.1.1.1.1 i })
+    (λ e. (ap (λ x. x.name) e, (ap (λ x. x.of) e, (ap (λ x. x.offset) e, (ap (λ x. x.cells) e, (ap (λ x. x.within) e, ap (λ x. x.tags) e))))))
+    (option_is bytes_eq-Decides a.name b.name also option_is type_is a.of b.of also Decides-eqb a.offset b.offset also Decides-eqb a.cells b.cells also option_is within_is a.within b.within also option_is Decides-eqb a.tags b.tags)
 
 constants_is : (a b : VariantConstants) → Decides ((same_constants.ghosts).eq a b) (a ≡ b)
 constants_is a b =
@@ -145,16 +145,16 @@ constants_is a b =
 part_is : (a b : Part) → Decides ((same_part.ghosts).eq a b) (a ≡ b)
 part_is a b =
     Decides-like _
-      (λ h i. record { within = h.0 i; tag = h.1.0 i; hidden = h.1.1.0 i; host = h.1.1.1.0 i; variants = h.1.1.1.1.0 i; slots = h.1.1.1.1.1.0 i; cells = h.1.1.1.1.1.1 i })
-      (λ e. (ap (λ x. x.within) e, (ap (λ x. x.tag) e, (ap (λ x. x.hidden) e, (ap (λ x. x.host) e, (ap (λ x. x.variants) e, (ap (λ x. x.slots) e, ap (λ x. x.cells) e)))))))
-      (option_is within_is a.within b.within also Decides-eqb a.tag b.tag also bool_is a.hidden b.hidden also option_is type_is a.host b.host also list_is constants_is a.variants b.variants also Decides-eqb a.slots b.slots also Decides-eqb a.cells b.cells)
+    (λ h i. record { within = h.0 i; tag = h.1.0 i; hidden = h.1.1.0 i; host = h.1.1.1.0 i; variants = h.1.1.1.1.0 i; slots = h.1.1.1.1.1.0 i; cells = h.1.1.1.1.1.1 i })
+    (λ e. (ap (λ x. x.within) e, (ap (λ x. x.tag) e, (ap (λ x. x.hidden) e, (ap (λ x. x.host) e, (ap (λ x. x.variants) e, (ap (λ x. x.slots) e, ap (λ x. x.cells) e)))))))
+    (option_is within_is a.within b.within also Decides-eqb a.tag b.tag also bool_is a.hidden b.hidden also option_is type_is a.host b.host also list_is constants_is a.variants b.variants also Decides-eqb a.slots b.slots also Decides-eqb a.cells b.cells)
 
 record_is : (a b : RecordShape) → Decides ((same_record.ghosts).eq a b) (a ≡ b)
 record_is a b =
     Decides-like _
-      (λ h i. record { packed = h.0 i; slots = h.1.0 i; parts = h.1.1.0 i; cells = h.1.1.1.0 i; file = h.1.1.1.1 i })
-      (λ e. (ap (λ x. x.packed) e, (ap (λ x. x.slots) e, (ap (λ x. x.parts) e, (ap (λ x. x.cells) e, ap (λ x. x.file) e)))))
-      (bool_is a.packed b.packed also list_is slot_is a.slots b.slots also list_is part_is a.parts b.parts also Decides-eqb a.cells b.cells also bool_is a.file b.file)
+    (λ h i. record { packed = h.0 i; slots = h.1.0 i; parts = h.1.1.0 i; cells = h.1.1.1.0 i; file = h.1.1.1.1 i })
+    (λ e. (ap (λ x. x.packed) e, (ap (λ x. x.slots) e, (ap (λ x. x.parts) e, (ap (λ x. x.cells) e, ap (λ x. x.file) e)))))
+    (bool_is a.packed b.packed also list_is slot_is a.slots b.slots also list_is part_is a.parts b.parts also Decides-eqb a.cells b.cells also bool_is a.file b.file)
 
 range_shape_is : (b b' : Bounds) → Decides ((same_shape.ghosts).eq (shape.Range b) (shape.Range b')) (shape.Range b ≡ shape.Range b')
 range_shape_is b b' =
@@ -200,16 +200,16 @@ shape_is _ _ = (λ h. absurd (let n : ⊥ = cc in n), λ e. absurd (let n : ⊥ 
 formal_is : (a b : Formal) → Decides ((same_formal.ghosts).eq a b) (a ≡ b)
 formal_is a b =
     Decides-like _
-      (λ h i. record { depth = h.0 i; section = h.1.0 i; name = h.1.1.0 i; kind = h.1.1.1.0 i; of = h.1.1.1.1 i })
-      (λ e. (ap (λ x. x.depth) e, (ap (λ x. x.section) e, (ap (λ x. x.name) e, (ap (λ x. x.kind) e, ap (λ x. x.of) e)))))
-      (Decides-eqb a.depth b.depth also Decides-eqb a.section b.section also bytes_eq-Decides a.name b.name also kind_is a.kind b.kind also option_is type_is a.of b.of)
+    (λ h i. record { depth = h.0 i; section = h.1.0 i; name = h.1.1.0 i; kind = h.1.1.1.0 i; of = h.1.1.1.1 i })
+    (λ e. (ap (λ x. x.depth) e, (ap (λ x. x.section) e, (ap (λ x. x.name) e, (ap (λ x. x.kind) e, ap (λ x. x.of) e)))))
+    (Decides-eqb a.depth b.depth also Decides-eqb a.section b.section also bytes_eq-Decides a.name b.name also kind_is a.kind b.kind also option_is type_is a.of b.of)
 
 heading_is : (a b : Heading) → Decides ((same_heading.ghosts).eq a b) (a ≡ b)
 heading_is a b =
     Decides-like _
-      (λ h i. record { formals = h.0 i; result = h.1 i })
-      (λ e. (ap (λ x. x.formals) e, ap (λ x. x.result) e))
-      (list_is formal_is a.formals b.formals also option_is type_is a.result b.result)
+    (λ h i. record { formals = h.0 i; result = h.1 i })
+    (λ e. (ap (λ x. x.formals) e, ap (λ x. x.result) e))
+    (list_is formal_is a.formals b.formals also option_is type_is a.result b.result)
 
 ordinal_value_is : (t t' : TypeId) (n n' : ℤ) → Decides ((same_value.ghosts).eq (value.Ordinal t n) (value.Ordinal t' n')) (value.Ordinal t n ≡ value.Ordinal t' n')
 ordinal_value_is t t' n n' =
@@ -227,23 +227,23 @@ value_is _ _ = (λ h. absurd (let n : ⊥ = cc in n), λ e. absurd (let n : ⊥ 
 variable_is : (a b : Variable) → Decides ((same_variable.ghosts).eq a b) (a ≡ b)
 variable_is a b =
     Decides-like _
-      (λ h i. record { of = h.0 i; offset = h.1.0 i; control = h.1.1 i })
-      (λ e. (ap (λ x. x.of) e, (ap (λ x. x.offset) e, ap (λ x. x.control) e)))
-      (option_is type_is a.of b.of also Decides-eqb a.offset b.offset also bool_is a.control b.control)
+    (λ h i. record { of = h.0 i; offset = h.1.0 i; control = h.1.1 i })
+    (λ e. (ap (λ x. x.of) e, (ap (λ x. x.offset) e, ap (λ x. x.control) e)))
+    (option_is type_is a.of b.of also Decides-eqb a.offset b.offset also bool_is a.control b.control)
 
 parameter_is : (a b : Parameter) → Decides ((same_parameter.ghosts).eq a b) (a ≡ b)
 parameter_is a b =
     Decides-like _
-      (λ h i. record { kind = h.0 i; of = h.1.0 i; offset = h.1.1.0 i; own = h.1.1.1 i })
-      (λ e. (ap (λ x. x.kind) e, (ap (λ x. x.of) e, (ap (λ x. x.offset) e, ap (λ x. x.own) e))))
-      (kind_is a.kind b.kind also option_is type_is a.of b.of also Decides-eqb a.offset b.offset also option_is heading_is a.own b.own)
+    (λ h i. record { kind = h.0 i; of = h.1.0 i; offset = h.1.1.0 i; own = h.1.1.1 i })
+    (λ e. (ap (λ x. x.kind) e, (ap (λ x. x.of) e, (ap (λ x. x.offset) e, ap (λ x. x.own) e))))
+    (kind_is a.kind b.kind also option_is type_is a.of b.of also Decides-eqb a.offset b.offset also option_is heading_is a.own b.own)
 
 routine_is : (a b : Routine) → Decides ((same_routine.ghosts).eq a b) (a ≡ b)
 routine_is a b =
     Decides-like _
-      (λ h i. record { heading = h.0 i; block = h.1 i })
-      (λ e. (ap (λ x. x.heading) e, ap (λ x. x.block) e))
-      (heading_is a.heading b.heading also option_is (list_is step_is) a.block b.block)
+    (λ h i. record { heading = h.0 i; block = h.1 i })
+    (λ e. (ap (λ x. x.heading) e, ap (λ x. x.block) e))
+    (heading_is a.heading b.heading also option_is (list_is step_is) a.block b.block)
 
 const_decl_is : (p p' : List PathStep) (v v' : Option ConstantValue) → Decides ((same_decl.ghosts).eq (decl.Const p v) (decl.Const p' v')) (decl.Const p v ≡ decl.Const p' v')
 const_decl_is p p' v v' =
