@@ -38,7 +38,7 @@ impl Run {
 
     pub fn make(&mut self, alloc: Global) -> Result<u64, Memory> {
         let number = self.files.make(alloc)?;
-        self.count = number + 1;
+        self.count = number.saturating_add(1);
         Ok(number)
     }
 

@@ -53,7 +53,10 @@ nothing_left (x ∷ xs) zero = sym (lt-leb (suc (length xs)) 0 (omega arith))
 nothing_left (x ∷ xs) (suc at) = nothing_left xs at ∙ same_test (length xs) at
   where
     same_test : (m n : ℕ) → nat_le m n ≡ nat_le (suc m) (suc n)
-    same_test m n = elim (cases_lt n m) [ inl above ↦ lt-leb m n above ∙ sym (lt-leb (suc m) (suc n) (omega arith)) | inr within ↦ le-leb m n within ∙ sym (le-leb (suc m) (suc n) (omega arith)) ]
+    same_test m n = elim (cases_lt n m) [
+      | inl above ↦ lt-leb m n above ∙ sym (lt-leb (suc m) (suc n) (omega arith))
+      | inr within ↦ le-leb m n within ∙ sym (le-leb (suc m) (suc n) (omega arith))
+    ]
 
 unwrap_some : (y x : Item) → Some y ≡ Some x → y ≡ x
 unwrap_some y x e = ap (λ o. unwrap_or o y) e
@@ -85,16 +88,19 @@ get-kept xs at x e = reads xs at x (Gives tt (moved 1 (file_kept xs (place.Readi
 abbrev pub line_end : List Item → ℕ → ℕ
 line_end xs at = at + prefix_len is_character (drop at xs)
 
-read_line_moved : (xs : List Item) (at : ℕ) (x : Item) → slice_get xs at ≡ Some x → read_line (file_kept xs (place.Reading at)) ≡ Gives tt (file_kept xs (place.Reading (line_end xs at + 1)))
+read_line_moved : (xs : List Item) (at : ℕ) (x : Item) → slice_get xs at ≡ Some x →
+    read_line (file_kept xs (place.Reading at)) ≡ Gives tt (file_kept xs (place.Reading (line_end xs at + 1)))
 read_line_moved xs at x e =
     reads xs at x (Gives tt (moved (prefix_len is_character (drop at xs) + 1) (file_kept xs (place.Reading at)))) e
     ∙ ap (Gives tt) (moved_kept xs at (prefix_len is_character (drop at xs) + 1) ∙ ap (λ n. file_kept xs (place.Reading n)) (omega arith))
 
-pub read_line-kept : (xs : List Item) (at : ℕ) (x : Item) → slice_get xs at ≡ Some x → (end : ℕ) → end ≡ line_end xs at → read_line (file_kept xs (place.Reading at)) ≡ Gives tt (file_kept xs (place.Reading (end + 1)))
+pub read_line-kept : (xs : List Item) (at : ℕ) (x : Item) → slice_get xs at ≡ Some x → (end : ℕ) → end ≡ line_end xs at →
+    read_line (file_kept xs (place.Reading at)) ≡ Gives tt (file_kept xs (place.Reading (end + 1)))
 read_line-kept xs at x e end is = read_line_moved xs at x e ∙ ap (λ n. Gives tt (file_kept xs (place.Reading (n + 1)))) (sym is)
 
 -- where no line end follows, the place is the end
-pub read_line_past-kept : (xs : List Item) (at : ℕ) (x : Item) → slice_get xs at ≡ Some x → (end : ℕ) → end ≡ line_end xs at → length xs ≤ end → read_line (file_kept xs (place.Reading at)) ≡ Gives tt (file_kept xs (place.Reading end))
+pub read_line_past-kept : (xs : List Item) (at : ℕ) (x : Item) → slice_get xs at ≡ Some x → (end : ℕ) → end ≡ line_end xs at → length xs ≤ end →
+    read_line (file_kept xs (place.Reading at)) ≡ Gives tt (file_kept xs (place.Reading end))
 read_line_past-kept xs at x e end is past = read_line-kept xs at x e end is ∙ ap (Gives tt) (kept_past xs (end + 1) end (omega arith) past)
 
 -- the last item tells whether the last line is ended
@@ -113,7 +119,8 @@ contents-kept items (place.Reading at) = take-append-drop at items
 contents-kept items place.Writing = append-nil items
 
 -- what `page` writes to a file that is kept in writing
-pub page-kept : (items : List Item) (p : Place) → is_writing (file_kept items p).state ≡ true → page_items (file_kept items p) ≡ cond (is_unfinished items) (LineEnd ∷ Character 12 ∷ []) (Character 12 ∷ [])
+pub page-kept : (items : List Item) (p : Place) → is_writing (file_kept items p).state ≡ true →
+    page_items (file_kept items p) ≡ cond (is_unfinished items) (LineEnd ∷ Character 12 ∷ []) (Character 12 ∷ [])
 page-kept items place.Closed h = absurd (true≢false (sym h))
 page-kept items (place.Reading at) h = absurd (true≢false (sym h))
 page-kept items place.Writing h = refl

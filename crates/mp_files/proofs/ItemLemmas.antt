@@ -12,7 +12,8 @@ length-kept marks at (b ∷ bytes) = ap suc (length-kept marks (suc at) bytes)
 
 pub kept-append : (marks : List ℕ) (at : ℕ) (xs ys : List ℕ) → items_kept marks at (xs ++ ys) ≡ items_kept marks at xs ++ items_kept marks (at + length xs) ys
 kept-append marks at [] ys = ap (λ n. items_kept marks n ys) (omega arith)
-kept-append marks at (x ∷ xs) ys = ap (λ l. item_kept marks at x ∷ l) (kept-append marks (suc at) xs ys ∙ ap (λ n. items_kept marks (suc at) xs ++ items_kept marks n ys) (omega arith))
+kept-append marks at (x ∷ xs) ys = ap (λ l. item_kept marks at x ∷ l) (kept-append marks (suc at) xs ys
+    ∙ ap (λ n. items_kept marks (suc at) xs ++ items_kept marks n ys) (omega arith))
 
 -- items are told by the marks of their places alone
 pub kept_same : (marks others : List ℕ) (at : ℕ) (bytes : List ℕ) → ((k : ℕ) → at ≤ k → k < at + length bytes → is_marked marks k ≡ is_marked others k) →
@@ -58,7 +59,8 @@ pub bytes-kept : (marks : List ℕ) (at : ℕ) (bytes : List ℕ) → bytes_of (
 bytes-kept marks at [] = refl
 bytes-kept marks at (b ∷ bytes) = ap (λ x. x ∷ bytes_of (items_kept marks (suc at) bytes)) (byte_kept b (is_marked marks at)) ∙ ap (λ l. b ∷ l) (bytes-kept marks (suc at) bytes)
 
-pub get-kept : (marks : List ℕ) (at : ℕ) (bytes : List ℕ) (i : ℕ) → i < length bytes → slice_get (items_kept marks at bytes) i ≡ Some (item_kept marks (at + i) (get_or bytes i 0))
+pub get-kept : (marks : List ℕ) (at : ℕ) (bytes : List ℕ) (i : ℕ) → i < length bytes →
+    slice_get (items_kept marks at bytes) i ≡ Some (item_kept marks (at + i) (get_or bytes i 0))
 get-kept marks at [] i h = absurd (omega arith)
 get-kept marks at (b ∷ bytes) zero h = ap (λ n. Some (item_kept marks n b)) (omega arith)
 get-kept marks at (b ∷ bytes) (suc i) h = get-kept marks (suc at) bytes i (omega arith) ∙ ap (λ n. Some (item_kept marks n (get_or bytes i 0))) (omega arith)
@@ -70,7 +72,8 @@ get_past-kept marks at (b ∷ bytes) (suc i) h = get_past-kept marks (suc at) by
 
 -- bytes behind the kept ones, of which no place is marked
 pub text_added : (marks bytes more : List ℕ) → NoneMarked marks (length bytes) → items_kept marks 0 (bytes ++ more) ≡ items_kept marks 0 bytes ++ items_of more
-text_added marks bytes more none = kept-append marks 0 bytes more ∙ ap (λ l. items_kept marks 0 bytes ++ l) (kept_text marks (0 + length bytes) more (λ k low. none k (omega arith)))
+text_added marks bytes more none = kept-append marks 0 bytes more
+    ∙ ap (λ l. items_kept marks 0 bytes ++ l) (kept_text marks (0 + length bytes) more (λ k low. none k (omega arith)))
 
 -- characters behind the kept items, of which each with the number 10 is marked
 pub characters_added : (marks new bytes more : List ℕ) → AreMarked marks new (length bytes) more → items_kept new 0 (bytes ++ more) ≡ items_kept marks 0 bytes ++ characters more
