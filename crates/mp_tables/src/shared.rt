@@ -1,4 +1,4 @@
-ghost use Rattle.std.specs.Prelude.{◌≡◌, IfOk, length};
+ghost use Rattle.std.specs.Prelude.{◌≡◌, ◌<◌, ◌^◌, IfOk, length};
 ghost use Rattle.std.specs.Cmp.Lexicographic.{pointwise, lists_per};
 
 use mp_base::Memory;
@@ -15,7 +15,7 @@ pub struct Shared<T> {
 }
 
 impl<T> Model for Shared<T> {
-    ghost use Rattle.std.specs.Prelude.{List};
+    ghost use Rattle.std.specs.Prelude.{◌<◌, ◌^◌, List, length};
     ghost use Rattle.std.specs.Arc.{arc_value};
     ghost use Rattle.std.specs.Coded.{coded_list};
 
@@ -24,6 +24,9 @@ impl<T> Model for Shared<T> {
     ghost coded = { coded_list T.code };
 
     ghost view = { λ shared. arc_value shared.items };
+
+    // No memory holds more, so that a number of items is an `i64` too.
+    ghost invariant = { λ shared. length (arc_value shared.items) < 2 ^ 63 };
 }
 
 impl<T: PartialEq> PartialEq for Shared<T> {
@@ -55,7 +58,8 @@ impl<T> Shared<T> {
 
     /// How many items the list has.
     pub fn len(&self) -> usize
-        ensures { result ≡ length self.now }
+        ensures value { result ≡ length self.now }
+        ensures small { result < 2 ^ 63 }
     {
         self.items.len()
     }
@@ -66,6 +70,9 @@ impl<T: Drop> Shared<T> {
     pub fn new(alloc: Global, items: Items<T>) -> Result<Shared<T>, Memory>
         ensures { IfOk result (λ shared. shared ≡ items) }
     {
+        if items.len() > isize::MAX as usize {
+            return Err(Memory);
+        }
         Ok(Shared {
             items: Arc::new(alloc, items)?,
         })
