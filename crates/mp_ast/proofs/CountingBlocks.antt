@@ -171,7 +171,8 @@ module _ (limits : Limits) (nested : Rule Tree) (reads : (i : Input) (x : Tree) 
       subst (λ y. BodyReads limits.declarations i y j) e
       (record { at = c.at; tokens = let t = c.tokens in omega (arith, t); fits = tt; begins = no_more_begin limits.declarations i j c })
 
-  block_reads : (i : Input) (t : Tree) (x : DeclaredBody × List Tree) (j : Input) → NestedReads limits.declarations i t j → (body.Block, t ∷ []) ≡ x → BodyReads limits.declarations i x j
+  block_reads : (i : Input) (t : Tree) (x : DeclaredBody × List Tree) (j : Input) → NestedReads limits.declarations i t j → (body.Block, t ∷ []) ≡ x →
+      BodyReads limits.declarations i x j
   block_reads i t x j n e =
       let begins = n.begins in
       subst (λ y. BodyReads limits.declarations i y j) e

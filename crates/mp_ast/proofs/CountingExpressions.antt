@@ -1,7 +1,9 @@
 -- The rules of expressions go on by as many ordinals as they read tokens.
 use Rattle.std.proofs.Common.{ℕ, zero, suc}
-use Rattle.mp_ast.specs.ExpressionGrammar.{Deeper, behind, relational_operator, adding_operator, multiplying_operator, access_with, actuals_with, factor_with, term, simple_expression, expression_with, expression, access, actuals}
-use Rattle.mp_ast.proofs.Counting.{Counts, nothing, never, next, made, either, maybe, repeated, repeated_lists, one, row, opens, identifier_counts, number_counts, string_counts, sign_counts}
+use Rattle.mp_ast.specs.ExpressionGrammar.{Deeper, behind, relational_operator, adding_operator, multiplying_operator, access_with, actuals_with, factor_with}
+use Rattle.mp_ast.specs.ExpressionGrammar.{term, simple_expression, expression_with, expression, access, actuals}
+use Rattle.mp_ast.proofs.Counting.{Counts, nothing, never, next, made, either, maybe, repeated, repeated_lists, one, row, opens, identifier_counts}
+use Rattle.mp_ast.proofs.Counting.{number_counts, string_counts, sign_counts}
 
 relational : Counts relational_operator
 relational =

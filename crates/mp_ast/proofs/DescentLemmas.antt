@@ -102,7 +102,8 @@ mutual
       ⊎_elim
       (λ same.
       let e = step_equal n.step s same in
-      let none = none_found goal rest (in_others prefix s path (start + tokens_of tree) nested more (subst (λ x. AllByRecursion (λ (m : Nested). same_step x m.step ≡ false) nested) e d.0)) in
+      let none = none_found goal rest
+      (in_others prefix s path (start + tokens_of tree) nested more (subst (λ x. AllByRecursion (λ (m : Nested). same_step x m.step ≡ false) nested) e d.0)) in
       ap (option_map standing) (found_in_front goal here rest none) ∙
       ap (λ p. option_map standing (found p here)) (ap (λ x. prefix ++ x ∷ path) (sym e) ∙ sym (append_assoc prefix (n.step ∷ []) path)) ∙
       from_found inner path begin tree ∙

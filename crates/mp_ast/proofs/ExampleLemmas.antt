@@ -48,7 +48,8 @@ pub past_10 : {A B C D E F G H I J K : Type 0} → K → A ⊎ (B ⊎ (C ⊎ (D 
 past_10 p = inr (past_9 p)
 
 -- a token that stands there is read
-pub took : {k : TokenKind} {at declared : ℕ} {rest : List TokenKind} → token k (record { at = at; declared = declared; rest = k ∷ rest }) at (record { at = at + 1; declared = declared; rest = rest })
+pub took : {k : TokenKind} {at declared : ℕ} {rest : List TokenKind} →
+    token k (record { at = at; declared = declared; rest = k ∷ rest }) at (record { at = at + 1; declared = declared; rest = rest })
 took = (refl, refl, refl, refl)
 
 -- nothing is read
@@ -64,18 +65,26 @@ pub at_end : {k : TokenKind} {at declared : ℕ} → not_before k (record { at =
 at_end {k} = (λ more h. let f : ◌≡◌ {A = List TokenKind} [] (k ∷ more) = h in absurd (cc), refl)
 
 -- a number as a constant
-pub number_constant : (at declared value : ℕ) (rest : List TokenKind) → constant (record { at = at; declared = declared; rest = Number value ∷ rest }) (c.Number None (record { at = at; value = value })) (record { at = at + 1; declared = declared; rest = rest })
+pub number_constant : (at declared value : ℕ) (rest : List TokenKind) →
+    constant (record { at = at; declared = declared; rest = Number value ∷ rest }) (c.Number None (record { at = at; value = value }))
+    (record { at = at + 1; declared = declared; rest = rest })
 number_constant at declared value rest = inl (seq _ _ (past_1 nothing) (inl (seq _ _ took nothing)))
 
 -- a factor alone is an expression
 pub factor_alone : (room : ℕ) (behind : Deeper) (i : Input) (x : Expr) (j : Input) → factor_with room behind i x j → expression_with room behind i x j
 factor_alone room behind i x j f = seq _ _ (seq _ _ (past_1 nothing) (seq _ _ (seq _ _ f (seq _ _ no_more nothing)) (seq _ _ no_more nothing))) (seq _ _ (past_1 nothing) nothing)
 
-pub name_access : (room at declared : ℕ) (name : List ℕ) (rest : List TokenKind) → access room (record { at = at; declared = declared; rest = Id name ∷ rest }) (record { name = record { at = at; name = name }; selectors = [] }) (record { at = at + 1; declared = declared; rest = rest })
+pub name_access : (room at declared : ℕ) (name : List ℕ) (rest : List TokenKind) →
+    access room (record { at = at; declared = declared; rest = Id name ∷ rest }) (record { name = record { at = at; name = name }; selectors = [] })
+    (record { at = at + 1; declared = declared; rest = rest })
 name_access room at declared name rest = seq _ _ took (seq _ _ (seq _ _ no_more nothing) nothing)
 
-pub name_expression : (room at declared : ℕ) (name : List ℕ) (rest : List TokenKind) → expression room (record { at = at; declared = declared; rest = Id name ∷ rest }) (e.Access (record { name = record { at = at; name = name }; selectors = [] })) (record { at = at + 1; declared = declared; rest = rest })
+pub name_expression : (room at declared : ℕ) (name : List ℕ) (rest : List TokenKind) →
+    expression room (record { at = at; declared = declared; rest = Id name ∷ rest }) (e.Access (record { name = record { at = at; name = name }; selectors = [] }))
+    (record { at = at + 1; declared = declared; rest = rest })
 name_expression room at declared name rest = factor_alone room (behind room) _ _ _ (past_3 (inl (seq _ _ (name_access room at declared name rest) nothing)))
 
-pub number_expression : (room at declared value : ℕ) (rest : List TokenKind) → expression room (record { at = at; declared = declared; rest = Number value ∷ rest }) (e.Number (record { at = at; value = value })) (record { at = at + 1; declared = declared; rest = rest })
+pub number_expression : (room at declared value : ℕ) (rest : List TokenKind) →
+    expression room (record { at = at; declared = declared; rest = Number value ∷ rest }) (e.Number (record { at = at; value = value }))
+    (record { at = at + 1; declared = declared; rest = rest })
 number_expression room at declared value rest = factor_alone room (behind room) _ _ _ (inl (seq _ _ took nothing))

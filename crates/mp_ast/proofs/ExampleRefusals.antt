@@ -15,12 +15,14 @@ use Rattle.mp_ast.specs.StatementGrammar.{behind}
 use Rattle.mp_ast.specs.Examples.{NoElseFollows, NoRoomForPacked, NoneInTheDeepest}
 
 -- equal `if` statements are both without an `else`
-without_else : (at place : ℕ) (condition other : Expr) (body first : Statement) (second : Option Statement) → t.If at condition first second ≡ t.If place other body None → second ≡ None
+without_else : (at place : ℕ) (condition other : Expr) (body first : Statement) (second : Option Statement) → t.If at condition first second ≡
+    t.If place other body None → second ≡ None
 without_else at place condition other body first None h = refl
 without_else at place condition other body first (Some x) h = let f : t.If at condition first (Some x) ≡ t.If place other body None = h in absurd (cc)
 
 -- where an `else` part is left out, no `else` follows
-nothing_behind : (second : Option Statement) (i m j : Input) (more : List TokenKind) (r : Rule Statement) → second ≡ None → m ≡ j → (Some <$> (word w.Else >> r) <|> not_before (Word w.Else) >> gives None) i second m → j.rest ≢ Word w.Else ∷ more
+nothing_behind : (second : Option Statement) (i m j : Input) (more : List TokenKind) (r : Rule Statement) → second ≡ None → m ≡ j →
+    (Some <$> (word w.Else >> r) <|> not_before (Word w.Else) >> gives None) i second m → j.rest ≢ Word w.Else ∷ more
 nothing_behind second i m j more r none e (inl p) k = let f = p.3.0 in absurd (cc)
 nothing_behind second i m j more r none e (inr p) k = p.2.0 more (ap (λ v. v.rest) (p.2.1 ∙ p.3.1 ∙ e) ∙ k)
 
@@ -49,7 +51,8 @@ no_sign : (x : Sign) (i j : Input) (more : List TokenKind) → i.rest ≡ Word w
 no_sign x i j more e (inl p) = let f = p.2.0 in absurd (cc)
 no_sign x i j more e (inr p) = let f = p.2.0 in absurd (cc)
 
-no_number_or_name : (s : Option Sign) (x : Constant) (i m j : Input) (more : List TokenKind) → i.rest ≡ Word w.Packed ∷ more → optional sign i s m → (c.Number s <$> number <|> c.Name s <$> identifier) m x j → ⊥
+no_number_or_name : (s : Option Sign) (x : Constant) (i m j : Input) (more : List TokenKind) → i.rest ≡ Word w.Packed ∷ more → optional sign i s m →
+    (c.Number s <$> number <|> c.Name s <$> identifier) m x j → ⊥
 no_number_or_name s x i m j more e (inl p) q = no_sign p.0 i p.1 more e p.2
 no_number_or_name s x i m j more e (inr p) (inl q) = let f = q.2.0 in let g = ap (λ v. v.rest) p.1 in absurd (cc)
 no_number_or_name s x i m j more e (inr p) (inr q) = let f = q.2.0 in let g = ap (λ v. v.rest) p.1 in absurd (cc)

@@ -15,7 +15,8 @@ use Rattle.mp_ast.specs.Examples.{FollowsTheProgram}
 use Rattle.mp_ast.proofs.LimitExamples.{none_of_many, behind_heading, short_tree}
 
 -- a part of a block that begins with another word is left out
-kept : {A : Type 0} {X : ℕ → Input → Type 0} {xs : List A} (first : WordSymbol) (i m : Input) (k : TokenKind) (more : List TokenKind) → Word first ≢ k → i.rest ≡ k ∷ more → ((at : ℕ) × (l : Input) × word first i at l × X at l) ⊎ gives [] i xs m → m.rest ≡ k ∷ more
+kept : {A : Type 0} {X : ℕ → Input → Type 0} {xs : List A} (first : WordSymbol) (i m : Input) (k : TokenKind) (more : List TokenKind) → Word first ≢ k → i.rest ≡
+    k ∷ more → ((at : ℕ) × (l : Input) × word first i at l × X at l) ⊎ gives [] i xs m → m.rest ≡ k ∷ more
 kept first i m k more other e (inl p) = let f = p.2.0 in let g : Word first ≡ k = cc in absurd (other g)
 kept first i m k more other e (inr p) = let g = ap (λ v. v.rest) p.1 in cc
 
@@ -42,7 +43,8 @@ abbrev small : Limits
 small = record { openers = 1; depth = 0; declarations = 0 }
 
 -- what stands behind the `.`, by what stands in turn behind the statements, `end`, the block and the `.`
-last_of : (rest : List TokenKind) {statements after block dot over : List TokenKind} → statements ≡ Word w.End ∷ Symbol s.Dot ∷ rest → statements ≡ Word w.End ∷ after → after ≡ block → block ≡ Symbol s.Dot ∷ dot → dot ≡ over → over ≡ [] → rest ≡ []
+last_of : (rest : List TokenKind) {statements after block dot over : List TokenKind} → statements ≡ Word w.End ∷ Symbol s.Dot ∷ rest → statements ≡ Word w.End ∷
+    after → after ≡ block → block ≡ Symbol s.Dot ∷ dot → dot ≡ over → over ≡ [] → rest ≡ []
 last_of rest a b c d e f = cc
 
 -- nothing follows the program

@@ -1,5 +1,6 @@
 -- What is told of tokens one after another: ordinals rise, each leaf stands at its token, and each identifier has one leaf.
-use Rattle.std.proofs.Common.{◌≡◌, ℕ, zero, suc, ◌+◌, ◌≤◌, ◌<◌, ⊎_elim, Bool, true, false, ◌&&◌, cond, List, [], ◌∷◌, ◌++◌, length, get_or, count_by, nat_eq, Option, Some, None, refl, sym, ap, ◌∙◌, subst, append_assoc, arith}
+use Rattle.std.proofs.Common.{◌≡◌, ℕ, zero, suc, ◌+◌, ◌≤◌, ◌<◌, ⊎_elim, Bool, true, false, ◌&&◌, cond, List, [], ◌∷◌, ◌++◌, length, get_or, count_by, nat_eq}
+use Rattle.std.proofs.Common.{Option, Some, None, refl, sym, ap, ◌∙◌, subst, append_assoc, arith}
 use Rattle.std.specs.Prelude.{slice_get}
 use Rattle.std.specs.List.{AllByRecursion}
 use Rattle.std.proofs.lemmas.Bool.{cases_Bool, cond-true, cond-false, eq-eqb, eqb-true, false_from_ne_true, false≢true}
@@ -14,7 +15,8 @@ use Rattle.mp_ast.specs.Programs.{Derives}
 use Rattle.mp_ast.specs.PlainTrees.{PlainStatementPart, PlainBlock, Compound, plain_tree}
 use Rattle.mp_ast.specs.Blocks.{PlacedBlock, blocks, index_in}
 use Rattle.mp_ast.specs.Leaves.{Leaf, Name, Forward, Mark, Bracket, Before, ordinal_of, has_token, is_identifier_token, Fits}
-use Rattle.mp_ast.specs.LeavesOfBlocks.{leaves_of_program, leaves_of_labels, leaves_of_constant_definitions, leaves_of_type_definitions, leaves_of_sections, leaves_of_declarations, leaves_of_statements, leaves_of_statement_part, leaves_of_block}
+use Rattle.mp_ast.specs.LeavesOfBlocks.{leaves_of_program, leaves_of_labels, leaves_of_constant_definitions, leaves_of_type_definitions, leaves_of_sections}
+use Rattle.mp_ast.specs.LeavesOfBlocks.{leaves_of_declarations, leaves_of_statements, leaves_of_statement_part, leaves_of_block}
 use Rattle.mp_ast.specs.LeavesInText.{ordinal_behind, AreInOrder, OrdinalsRise, OrdinalsAreBelow, LeavesStand, tells_identifier, EachIdentifierIsTold}
 use Rattle.mp_ast.proofs.PathLemmas.{all-map}
 use Rattle.mp_ast.proofs.IndexLemmas.{number, yes_one, not_zero}

@@ -15,14 +15,17 @@ use Rattle.mp_ast.specs.declared.blocks.DeclaredBody.TheVariants as body
 use Rattle.mp_ast.specs.declared.blocks.Block.{Block}
 use Rattle.mp_ast.specs.declared.blocks.Tree.{Tree, roll-Tree}
 use Rattle.mp_ast.specs.Rules.{Input, Rule, Many, no_more, one_more, joined, token, deeper}
-use Rattle.mp_ast.specs.BlockGrammar.{Limits, Declared, part, some, label_part, constant_part, type_part, variable_part, statement_part, program_parameters, block_with, nested_block, program}
+use Rattle.mp_ast.specs.BlockGrammar.{Limits, Declared, part, some, label_part, constant_part, type_part, variable_part, statement_part, program_parameters}
+use Rattle.mp_ast.specs.BlockGrammar.{block_with, nested_block, program}
 use Rattle.mp_ast.specs.Programs.{Derives, start_of}
 use Rattle.mp_ast.specs.PlainTrees.{PlainBlock, PlainTrees, plain_type_definition, plain_declaration, plain_statement_part, plain_block, trees_of, plain_tree}
 use Rattle.mp_ast.specs.Blocks.{Nested, nested_after, nested_in, is_block}
 use Rattle.mp_ast.specs.Leaves.{Leaf, Name, Forward, leaves_of_constant, leaves_of_names}
-use Rattle.mp_ast.specs.LeavesOfBlocks.{semicolon_leaf, leaves_of_program, leaves_of_labels, leaves_of_constant_definitions, leaves_of_type_definitions, leaves_of_sections, leaves_of_declarations, leaves_of_statement_part, leaves_of_block}
+use Rattle.mp_ast.specs.LeavesOfBlocks.{semicolon_leaf, leaves_of_program, leaves_of_labels, leaves_of_constant_definitions, leaves_of_type_definitions}
+use Rattle.mp_ast.specs.LeavesOfBlocks.{leaves_of_sections, leaves_of_declarations, leaves_of_statement_part, leaves_of_block}
 use Rattle.mp_ast.proofs.PlainTreeLemmas.{plain_tree-roll}
-use Rattle.mp_ast.proofs.LeavesTold.{is_name, Told, Tells, Reads, reads, still, onward, done, next, last, ends, closed, either, repeated, row, silent, mark, opens, forward_tells, identifier_tells, number_tells, constant_tells, names_tell}
+use Rattle.mp_ast.proofs.LeavesTold.{is_name, Told, Tells, Reads, reads, still, onward, done, next, last, ends, closed, either, repeated, row, silent, mark}
+use Rattle.mp_ast.proofs.LeavesTold.{opens, forward_tells, identifier_tells, number_tells, constant_tells, names_tell}
 use Rattle.mp_ast.proofs.LeavesOfStatements.{sequence_behind_tells}
 use Rattle.mp_ast.proofs.LeavesOfTypes.{denoter_leaves, section_leaves, sections_leaves, one_section, section_tells, denoter_tells}
 use Rattle.mp_ast.proofs.LeavesOfHeadings.{heading_leaves, heading_tells}

@@ -14,11 +14,16 @@ use Rattle.mp_ast.specs.declared.expressions.Member.{Member}
 use Rattle.mp_ast.specs.declared.expressions.Operation.{Operation}
 use Rattle.mp_ast.specs.declared.expressions.Expr.{Expr}
 use Rattle.mp_ast.specs.Rules.{Rule}
-use Rattle.mp_ast.specs.ExpressionGrammar.{Deeper, behind, relational_operator, adding_operator, multiplying_operator, operation, product, sum, relation, further_index, access_with, actual, actuals_with, member, factor_with, term, simple_expression, expression_with, expression, access, actuals}
+use Rattle.mp_ast.specs.ExpressionGrammar.{Deeper, behind, relational_operator, adding_operator, multiplying_operator, operation, product, sum, relation}
+use Rattle.mp_ast.specs.ExpressionGrammar.{further_index, access_with, actual, actuals_with, member, factor_with, term, simple_expression, expression_with}
+use Rattle.mp_ast.specs.ExpressionGrammar.{expression, access, actuals}
 use Rattle.mp_ast.specs.PlainExpressions.{selectors_of, with_actual, with_member, members_of, operations_of, plain_expr, plain_access, plain_actuals}
-use Rattle.mp_ast.specs.Leaves.{Leaf, Mark, Bracket, Name, operator_kind, leaves_of_sign, leaves_of_expression, leaves_of_selectors, leaves_of_actuals, leaves_of_members, leaves_of_operations, leaves_of_access}
-use Rattle.mp_ast.proofs.PlainExpressionLemmas.{plain_expr-Number, plain_expr-Text, plain_expr-Nil, plain_expr-Access, plain_expr-Call, plain_expr-Inside, plain_expr-Not, plain_expr-Set, plain_expr-Product, plain_expr-Sum, plain_expr-Relation}
-use Rattle.mp_ast.proofs.LeavesTold.{Tells, done, never, next, last, ends, closed, either, maybe_leaves, maybe, repeated, repeated_lists, row, silent, left_bracket_tells, comma_tells, mark, opens, identifier_tells, number_tells, string_tells, sign_tells}
+use Rattle.mp_ast.specs.Leaves.{Leaf, Mark, Bracket, Name, operator_kind, leaves_of_sign, leaves_of_expression, leaves_of_selectors, leaves_of_actuals}
+use Rattle.mp_ast.specs.Leaves.{leaves_of_members, leaves_of_operations, leaves_of_access}
+use Rattle.mp_ast.proofs.PlainExpressionLemmas.{plain_expr-Number, plain_expr-Text, plain_expr-Nil, plain_expr-Access, plain_expr-Call, plain_expr-Inside}
+use Rattle.mp_ast.proofs.PlainExpressionLemmas.{plain_expr-Not, plain_expr-Set, plain_expr-Product, plain_expr-Sum, plain_expr-Relation}
+use Rattle.mp_ast.proofs.LeavesTold.{Tells, done, never, next, last, ends, closed, either, maybe_leaves, maybe, repeated, repeated_lists, row, silent}
+use Rattle.mp_ast.proofs.LeavesTold.{left_bracket_tells, comma_tells, mark, opens, identifier_tells, number_tells, string_tells, sign_tells}
 
 -- ---- the leaves of trees, by their plain forms
 
@@ -39,7 +44,8 @@ operator_leaves o = Mark o.0 (operator_kind o.1) ∷ []
 relational : Tells relational_operator operator_leaves
 relational =
     either (next (mark refl) (λ at. done refl)) (either (next (mark refl) (λ at. done refl)) (either (next (mark refl) (λ at. done refl))
-    (either (next (mark refl) (λ at. done refl)) (either (next (mark refl) (λ at. done refl)) (either (next (mark refl) (λ at. done refl)) (next (mark refl) (λ at. done refl)))))))
+    (either (next (mark refl) (λ at. done refl))
+    (either (next (mark refl) (λ at. done refl)) (either (next (mark refl) (λ at. done refl)) (next (mark refl) (λ at. done refl)))))))
 
 adding : Tells adding_operator operator_leaves
 adding = either (next (mark refl) (λ at. done refl)) (either (next (mark refl) (λ at. done refl)) (next (mark refl) (λ at. done refl)))

@@ -15,8 +15,11 @@ use Rattle.mp_ast.specs.PlainExpressions.{plain_access}
 use Rattle.mp_ast.specs.PlainStatements.{arms_of, plain_head, plain_statement, plain_statements}
 use Rattle.mp_ast.specs.Leaves.{Leaf, Mark, leaves_of_constants}
 use Rattle.mp_ast.specs.LeavesOfBlocks.{leaves_of_records, leaves_of_head, leaves_of_statement, leaves_of_statements, leaves_of_arms}
-use Rattle.mp_ast.proofs.PlainStatementLemmas.{plain_statement-Labelled, plain_statement-Empty, plain_statement-Assign, plain_statement-Call, plain_statement-Goto, plain_statement-Compound, plain_statement-If, plain_statement-IfElse, plain_statement-Case, plain_statement-While, plain_statement-Repeat, plain_statement-For, plain_statement-With}
-use Rattle.mp_ast.proofs.LeavesTold.{Tells, done, never, next, last, ends, closed, either, maybe_leaves, row, silent, maybe_silent, mark, opens, here_tells, unless_tells, identifier_tells, number_tells, constants_tell}
+use Rattle.mp_ast.proofs.PlainStatementLemmas.{plain_statement-Labelled, plain_statement-Empty, plain_statement-Assign, plain_statement-Call}
+use Rattle.mp_ast.proofs.PlainStatementLemmas.{plain_statement-Goto, plain_statement-Compound, plain_statement-If, plain_statement-IfElse, plain_statement-Case}
+use Rattle.mp_ast.proofs.PlainStatementLemmas.{plain_statement-While, plain_statement-Repeat, plain_statement-For, plain_statement-With}
+use Rattle.mp_ast.proofs.LeavesTold.{Tells, done, never, next, last, ends, closed, either, maybe_leaves, row, silent, maybe_silent, mark, opens, here_tells}
+use Rattle.mp_ast.proofs.LeavesTold.{unless_tells, identifier_tells, number_tells, constants_tell}
 use Rattle.mp_ast.proofs.LeavesOfExpressions.{expression_leaves, access_leaves, expression_tells, access_tells, actuals_tell}
 
 -- ---- the leaves of trees, by their plain forms

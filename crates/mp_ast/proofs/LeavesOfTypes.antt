@@ -13,12 +13,16 @@ use Rattle.mp_ast.specs.declared.types.VariantPart.{VariantPart}
 use Rattle.mp_ast.specs.declared.types.Denoter.{Denoter}
 use Rattle.mp_ast.specs.declared.types.Denoter.TheVariants as d
 use Rattle.mp_ast.specs.Rules.{Rule, optional}
-use Rattle.mp_ast.specs.TypeGrammar.{Deeper, behind, simple_type, section, further_index, variant, tag_field, structure, packed_structure, denoter_with, variant_part, fixed_fields, field_list_with, denoter}
+use Rattle.mp_ast.specs.TypeGrammar.{Deeper, behind, simple_type, section, further_index, variant, tag_field, structure, packed_structure, denoter_with}
+use Rattle.mp_ast.specs.TypeGrammar.{variant_part, fixed_fields, field_list_with, denoter}
 use Rattle.mp_ast.specs.PlainTypes.{indices_of, variants_of, plain_denoter, plain_sections}
 use Rattle.mp_ast.specs.Leaves.{Leaf, Mark, Name, leaves_of_constants, leaves_of_names}
 use Rattle.mp_ast.specs.LeavesOfBlocks.{file_words, leaves_of_tag, leaves_of_denoter, leaves_of_further, leaves_of_sections, leaves_of_variants}
-use Rattle.mp_ast.proofs.PlainTypeLemmas.{plain_denoter-Named, plain_denoter-Enumeration, plain_denoter-Subrange, plain_denoter-Pointer, plain_denoter-Array, plain_denoter-Record, plain_denoter-Set, plain_denoter-File, plain_denoter-Fields, plain_denoter-FieldsWithVariants}
-use Rattle.mp_ast.proofs.LeavesTold.{Tells, done, never, next, last, ends, closed, either, either_at, anywhere, maybe_leaves, maybe, repeated, row, silent, maybe_silent, mark, opens, opens_next, marked_next, marked_at, identifier_tells, constant_tells, constants_tell, names_tell}
+use Rattle.mp_ast.proofs.PlainTypeLemmas.{plain_denoter-Named, plain_denoter-Enumeration, plain_denoter-Subrange, plain_denoter-Pointer, plain_denoter-Array}
+use Rattle.mp_ast.proofs.PlainTypeLemmas.{plain_denoter-Record, plain_denoter-Set, plain_denoter-File, plain_denoter-Fields, plain_denoter-FieldsWithVariants}
+use Rattle.mp_ast.proofs.LeavesTold.{Tells, done, never, next, last, ends, closed, either, either_at, anywhere, maybe_leaves, maybe, repeated, row, silent}
+use Rattle.mp_ast.proofs.LeavesTold.{maybe_silent, mark, opens, opens_next, marked_next, marked_at, identifier_tells, constant_tells, constants_tell}
+use Rattle.mp_ast.proofs.LeavesTold.{names_tell}
 
 -- ---- the leaves of trees, by their plain forms
 

@@ -1,14 +1,17 @@
 -- Tokens as a tree tells of them, and one lemma for each way in which rules are put together: what a rule reads is told
 -- by the leaves of the tree that it makes. Productions follow in the files of their chapters.
-use Rattle.std.proofs.Common.{◌≡◌, ℕ, zero, suc, ◌+◌, ◌⊎◌, inl, inr, Bool, true, false, List, [], ◌∷◌, ◌++◌, length, Option, Some, None, refl, sym, ap, ◌∙◌, subst, append_assoc, arith}
+use Rattle.std.proofs.Common.{◌≡◌, ℕ, zero, suc, ◌+◌, ◌⊎◌, inl, inr, Bool, true, false, List, [], ◌∷◌, ◌++◌, length, Option, Some, None, refl, sym, ap, ◌∙◌}
+use Rattle.std.proofs.Common.{subst, append_assoc, arith}
 use Rattle.std.specs.Prelude.{codes}
 use Rattle.std.proofs.lemmas.List.{length-append, append-nil}
 use Rattle.mp_ast.specs.declared.tokens.TokenKind.{TokenKind}
 use Rattle.mp_ast.specs.declared.tokens.TokenKind.TheVariants as kind
 use Rattle.mp_ast.specs.declared.symbols.Symbol.TheVariants as s
-use Rattle.mp_ast.specs.Rules.{Input, Rule, ◌>>=◌, ◌<$>◌, ◌<|>◌, gives, none, optional, Many, no_more, one_more, many, many_lists, joined, separated, token, here, not_before, opener}
+use Rattle.mp_ast.specs.Rules.{Input, Rule, ◌>>=◌, ◌<$>◌, ◌<|>◌, gives, none, optional, Many, no_more, one_more, many, many_lists, joined, separated, token}
+use Rattle.mp_ast.specs.Rules.{here, not_before, opener}
 use Rattle.mp_ast.specs.LeafGrammar.{identifier, number, character_string, sign, constant}
-use Rattle.mp_ast.specs.Leaves.{Leaf, Name, Forward, Mark, Bracket, Before, ordinal_of, has_token, is_identifier_token, Fits, number_leaf, string_leaf, leaves_of_sign, leaves_of_constant, leaves_of_constants, leaves_of_names}
+use Rattle.mp_ast.specs.Leaves.{Leaf, Name, Forward, Mark, Bracket, Before, ordinal_of, has_token, is_identifier_token, Fits, number_leaf, string_leaf}
+use Rattle.mp_ast.specs.Leaves.{leaves_of_sign, leaves_of_constant, leaves_of_constants, leaves_of_names}
 
 abbrev pub is_name : TokenKind → Bool
 is_name (kind.Id name) = true

@@ -9,7 +9,8 @@ use Rattle.std.proofs.lemmas.List.Sums.{sum_by-cons}
 use Rattle.std.proofs.lemmas.Slice.Eq.{bytes_eq-Decides}
 use Rattle.mp_base.specs.declared.path.PathStep.{PathStep}
 use Rattle.mp_ast.specs.PlainTrees.{PlainDeclaration, PlainTree, PlainTrees, TreeOf, NoTrees, Beside}
-use Rattle.mp_ast.specs.Blocks.{Nested, PlacedBlock, nested_after, nested_in, is_block, tokens_of, blocks, blocks_from, blocks_inside, same_step, same_path, PathsDiffer, EachIsAtItsPath}
+use Rattle.mp_ast.specs.Blocks.{Nested, PlacedBlock, nested_after, nested_in, is_block, tokens_of, blocks, blocks_from, blocks_inside, same_step, same_path}
+use Rattle.mp_ast.specs.Blocks.{PathsDiffer, EachIsAtItsPath}
 
 -- ---- steps
 

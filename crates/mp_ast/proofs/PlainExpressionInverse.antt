@@ -14,8 +14,10 @@ use Rattle.mp_ast.specs.declared.expressions.Expr.{Expr, roll-Expr, map-Expr, in
 use Rattle.mp_ast.specs.declared.expressions.Expr.TheOpen.{Expr-F}
 use Rattle.mp_ast.specs.declared.expressions.Expr.TheVariants as tree
 use Rattle.mp_ast.specs.PlainExpressions as plain
-use Rattle.mp_ast.specs.PlainExpressions.{PlainExpr, PlainSelectors, PlainActuals, PlainMembers, PlainOperations, PlainAccess, with_selector, with_actual, with_member, selectors_of, actuals_of, members_of, operations_of, plain_expr, plain_access, plain_actuals}
-use Rattle.mp_ast.proofs.PlainExpressionLemmas.{plain_expr-Number, plain_expr-Text, plain_expr-Nil, plain_expr-Access, plain_expr-Call, plain_expr-Inside, plain_expr-Not, plain_expr-Set, plain_expr-Product, plain_expr-Sum, plain_expr-Relation}
+use Rattle.mp_ast.specs.PlainExpressions.{PlainExpr, PlainSelectors, PlainActuals, PlainMembers, PlainOperations, PlainAccess, with_selector, with_actual}
+use Rattle.mp_ast.specs.PlainExpressions.{with_member, selectors_of, actuals_of, members_of, operations_of, plain_expr, plain_access, plain_actuals}
+use Rattle.mp_ast.proofs.PlainExpressionLemmas.{plain_expr-Number, plain_expr-Text, plain_expr-Nil, plain_expr-Access, plain_expr-Call, plain_expr-Inside}
+use Rattle.mp_ast.proofs.PlainExpressionLemmas.{plain_expr-Not, plain_expr-Set, plain_expr-Product, plain_expr-Sum, plain_expr-Relation}
 
 -- ---- from plain data to the trees
 

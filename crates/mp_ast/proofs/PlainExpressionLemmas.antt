@@ -16,7 +16,8 @@ use Rattle.mp_ast.specs.declared.expressions.Expr.{Expr, fold-roll-Expr}
 use Rattle.mp_ast.specs.declared.expressions.Expr.TheOpen.{Expr-F}
 use Rattle.mp_ast.specs.declared.expressions.Expr.TheVariants as tree
 use Rattle.mp_ast.specs.PlainExpressions as plain
-use Rattle.mp_ast.specs.PlainExpressions.{PlainExpr, PlainSelectors, PlainActuals, PlainMembers, PlainOperations, with_selector, with_actual, with_member, selectors_of, actuals_of, members_of, operations_of, itself, layer_expr, plain_expr, plain_actuals}
+use Rattle.mp_ast.specs.PlainExpressions.{PlainExpr, PlainSelectors, PlainActuals, PlainMembers, PlainOperations, with_selector, with_actual, with_member}
+use Rattle.mp_ast.specs.PlainExpressions.{selectors_of, actuals_of, members_of, operations_of, itself, layer_expr, plain_expr, plain_actuals}
 
 -- ---- lists of parts, each of which a function changes in the expressions in it
 
@@ -131,7 +132,8 @@ plain_expr-Product first more =
     ap plain_expr (sym (tree.rolls-Product first more)) ∙ fold-roll-Expr PlainExpr layer_expr (Expr-F.Product first more) ∙
     ap (plain.Product (plain_expr first)) (operations_of-map plain_expr itself _ (λ _. refl) more)
 
-pub plain_expr-Sum : (sign : Option Sign) (first : Expr) (more : List (Operation Expr)) → plain_expr (tree.Sum sign first more) ≡ plain.Sum sign (plain_expr first) (operations_of plain_expr more)
+pub plain_expr-Sum : (sign : Option Sign) (first : Expr) (more : List (Operation Expr)) → plain_expr (tree.Sum sign first more) ≡
+    plain.Sum sign (plain_expr first) (operations_of plain_expr more)
 unfolding plain_expr
 plain_expr-Sum sign first more =
     ap plain_expr (sym (tree.rolls-Sum sign first more)) ∙ fold-roll-Expr PlainExpr layer_expr (Expr-F.Sum sign first more) ∙

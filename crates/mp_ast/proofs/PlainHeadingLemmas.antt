@@ -24,14 +24,17 @@ unfolding plain_formal_section
 plain_formal_section-Variables at names of =
     ap plain_formal_section (sym (tree.rolls-Variables at names of)) ∙ fold-roll-FormalSection PlainFormalSection layer_formal_section (FormalSection-F.Variables at names of)
 
-pub plain_formal_section-Procedure : (at : ℕ) (name : Identifier) (own : List FormalSection) → plain_formal_section (tree.Procedure at name own) ≡ plain.Procedure at name (formals_of plain_formal_section own)
+pub plain_formal_section-Procedure : (at : ℕ) (name : Identifier) (own : List FormalSection) → plain_formal_section (tree.Procedure at name own) ≡
+    plain.Procedure at name (formals_of plain_formal_section own)
 unfolding plain_formal_section
 plain_formal_section-Procedure at name own =
     ap plain_formal_section (sym (tree.rolls-Procedure at name own)) ∙ fold-roll-FormalSection PlainFormalSection layer_formal_section (FormalSection-F.Procedure at name own) ∙
     ap (plain.Procedure at name) (formals_of-map plain_formal_section itself _ (λ _. refl) own)
 
-pub plain_formal_section-Function : (at : ℕ) (name : Identifier) (own : List FormalSection) (result : Identifier) → plain_formal_section (tree.Function at name own result) ≡ plain.Function at name (formals_of plain_formal_section own) result
+pub plain_formal_section-Function : (at : ℕ) (name : Identifier) (own : List FormalSection) (result : Identifier) →
+    plain_formal_section (tree.Function at name own result) ≡ plain.Function at name (formals_of plain_formal_section own) result
 unfolding plain_formal_section
 plain_formal_section-Function at name own result =
-    ap plain_formal_section (sym (tree.rolls-Function at name own result)) ∙ fold-roll-FormalSection PlainFormalSection layer_formal_section (FormalSection-F.Function at name own result) ∙
+    ap plain_formal_section (sym (tree.rolls-Function at name own result)) ∙
+    fold-roll-FormalSection PlainFormalSection layer_formal_section (FormalSection-F.Function at name own result) ∙
     ap (λ l. plain.Function at name l result) (formals_of-map plain_formal_section itself _ (λ _. refl) own)

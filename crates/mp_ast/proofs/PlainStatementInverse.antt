@@ -16,7 +16,9 @@ use Rattle.mp_ast.specs.PlainExpressions.{PlainAccess, selectors_of, actuals_of,
 use Rattle.mp_ast.specs.PlainStatements as plain
 use Rattle.mp_ast.specs.PlainStatements.{PlainStatement, PlainStatements, PlainArms, PlainForHead, statements_of, arms_of, plain_head, plain_statement, plain_statements}
 use Rattle.mp_ast.proofs.PlainExpressionInverse.{access, expr_of, selector_list, actual_list, selectors-told, actuals-told, expr_told}
-use Rattle.mp_ast.proofs.PlainStatementLemmas.{plain_statement-Labelled, plain_statement-Empty, plain_statement-Assign, plain_statement-Call, plain_statement-Goto, plain_statement-Compound, plain_statement-If, plain_statement-IfElse, plain_statement-Case, plain_statement-While, plain_statement-Repeat, plain_statement-For, plain_statement-With}
+use Rattle.mp_ast.proofs.PlainStatementLemmas.{plain_statement-Labelled, plain_statement-Empty, plain_statement-Assign, plain_statement-Call}
+use Rattle.mp_ast.proofs.PlainStatementLemmas.{plain_statement-Goto, plain_statement-Compound, plain_statement-If, plain_statement-IfElse, plain_statement-Case}
+use Rattle.mp_ast.proofs.PlainStatementLemmas.{plain_statement-While, plain_statement-Repeat, plain_statement-For, plain_statement-With}
 
 -- ---- variables and actual parameters
 

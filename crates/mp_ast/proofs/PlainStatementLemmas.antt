@@ -42,7 +42,8 @@ unfolding plain_statement
 plain_statement-Empty at =
     ap plain_statement (sym (tree.rolls-Empty at)) ∙ fold-roll-Statement PlainStatement layer_statement (Statement-F.Empty at)
 
-pub plain_statement-Assign : (variable : Access Expr) (at : ℕ) (value : Expr) → plain_statement (tree.Assign variable at value) ≡ plain.Assign (plain_access variable) at (plain_expr value)
+pub plain_statement-Assign : (variable : Access Expr) (at : ℕ) (value : Expr) → plain_statement (tree.Assign variable at value) ≡
+    plain.Assign (plain_access variable) at (plain_expr value)
 unfolding plain_statement
 plain_statement-Assign variable at value =
     ap plain_statement (sym (tree.rolls-Assign variable at value)) ∙ fold-roll-Statement PlainStatement layer_statement (Statement-F.Assign variable at value)
@@ -63,28 +64,34 @@ plain_statement-Compound at statements =
     ap plain_statement (sym (tree.rolls-Compound at statements)) ∙ fold-roll-Statement PlainStatement layer_statement (Statement-F.Compound at statements) ∙
     ap (plain.Compound at) (statements_of-map plain_statement itself _ (λ _. refl) statements)
 
-pub plain_statement-If : (at : ℕ) (condition : Expr) (first : Statement) → plain_statement (tree.If at condition first None) ≡ plain.If at (plain_expr condition) (plain_statement first)
+pub plain_statement-If : (at : ℕ) (condition : Expr) (first : Statement) → plain_statement (tree.If at condition first None) ≡
+    plain.If at (plain_expr condition) (plain_statement first)
 unfolding plain_statement
 plain_statement-If at condition first =
     ap plain_statement (sym (tree.rolls-If at condition first None)) ∙ fold-roll-Statement PlainStatement layer_statement (Statement-F.If at condition first None)
 
-pub plain_statement-IfElse : (at : ℕ) (condition : Expr) (first second : Statement) → plain_statement (tree.If at condition first (Some second)) ≡ plain.IfElse at (plain_expr condition) (plain_statement first) (plain_statement second)
+pub plain_statement-IfElse : (at : ℕ) (condition : Expr) (first second : Statement) → plain_statement (tree.If at condition first (Some second)) ≡
+    plain.IfElse at (plain_expr condition) (plain_statement first) (plain_statement second)
 unfolding plain_statement
 plain_statement-IfElse at condition first second =
-    ap plain_statement (sym (tree.rolls-If at condition first (Some second))) ∙ fold-roll-Statement PlainStatement layer_statement (Statement-F.If at condition first (Some second))
+    ap plain_statement (sym (tree.rolls-If at condition first (Some second))) ∙
+    fold-roll-Statement PlainStatement layer_statement (Statement-F.If at condition first (Some second))
 
-pub plain_statement-Case : (at : ℕ) (index : Expr) (arms : List (Arm Statement)) → plain_statement (tree.Case at index arms) ≡ plain.Case at (plain_expr index) (arms_of plain_statement arms)
+pub plain_statement-Case : (at : ℕ) (index : Expr) (arms : List (Arm Statement)) → plain_statement (tree.Case at index arms) ≡
+    plain.Case at (plain_expr index) (arms_of plain_statement arms)
 unfolding plain_statement
 plain_statement-Case at index arms =
     ap plain_statement (sym (tree.rolls-Case at index arms)) ∙ fold-roll-Statement PlainStatement layer_statement (Statement-F.Case at index arms) ∙
     ap (plain.Case at (plain_expr index)) (arms_of-map plain_statement itself _ (λ _. refl) arms)
 
-pub plain_statement-While : (at : ℕ) (condition : Expr) (body : Statement) → plain_statement (tree.While at condition body) ≡ plain.While at (plain_expr condition) (plain_statement body)
+pub plain_statement-While : (at : ℕ) (condition : Expr) (body : Statement) → plain_statement (tree.While at condition body) ≡
+    plain.While at (plain_expr condition) (plain_statement body)
 unfolding plain_statement
 plain_statement-While at condition body =
     ap plain_statement (sym (tree.rolls-While at condition body)) ∙ fold-roll-Statement PlainStatement layer_statement (Statement-F.While at condition body)
 
-pub plain_statement-Repeat : (at : ℕ) (statements : List Statement) (condition : Expr) → plain_statement (tree.Repeat at statements condition) ≡ plain.Repeat at (plain_statements statements) (plain_expr condition)
+pub plain_statement-Repeat : (at : ℕ) (statements : List Statement) (condition : Expr) → plain_statement (tree.Repeat at statements condition) ≡
+    plain.Repeat at (plain_statements statements) (plain_expr condition)
 unfolding plain_statement
 plain_statement-Repeat at statements condition =
     ap plain_statement (sym (tree.rolls-Repeat at statements condition)) ∙ fold-roll-Statement PlainStatement layer_statement (Statement-F.Repeat at statements condition) ∙
@@ -95,7 +102,8 @@ unfolding plain_statement
 plain_statement-For at head body =
     ap plain_statement (sym (tree.rolls-For at head body)) ∙ fold-roll-Statement PlainStatement layer_statement (Statement-F.For at head body)
 
-pub plain_statement-With : (at : ℕ) (records : List (Access Expr)) (body : Statement) → plain_statement (tree.With at records body) ≡ plain.With at (map plain_access records) (plain_statement body)
+pub plain_statement-With : (at : ℕ) (records : List (Access Expr)) (body : Statement) → plain_statement (tree.With at records body) ≡
+    plain.With at (map plain_access records) (plain_statement body)
 unfolding plain_statement
 plain_statement-With at records body =
     ap plain_statement (sym (tree.rolls-With at records body)) ∙ fold-roll-Statement PlainStatement layer_statement (Statement-F.With at records body)

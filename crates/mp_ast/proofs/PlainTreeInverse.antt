@@ -12,7 +12,8 @@ use Rattle.mp_ast.specs.declared.blocks.Tree.{Tree, roll-Tree, map-Tree, ind-Tre
 use Rattle.mp_ast.specs.declared.blocks.Tree.TheOpen.{Tree-F}
 use Rattle.mp_ast.specs.PlainTypes.{plain_sections}
 use Rattle.mp_ast.specs.PlainTrees as plain
-use Rattle.mp_ast.specs.PlainTrees.{PlainTypeDefinition, PlainDeclaration, PlainStatementPart, PlainBlock, PlainTree, PlainTrees, plain_type_definition, plain_declaration, plain_statement_part, plain_block, trees_of, plain_tree}
+use Rattle.mp_ast.specs.PlainTrees.{PlainTypeDefinition, PlainDeclaration, PlainStatementPart, PlainBlock, PlainTree, PlainTrees, plain_type_definition}
+use Rattle.mp_ast.specs.PlainTrees.{plain_declaration, plain_statement_part, plain_block, trees_of, plain_tree}
 use Rattle.mp_ast.proofs.PlainStatementInverse.{statement_list, same_statements}
 use Rattle.mp_ast.proofs.PlainTypeInverse.{denoter_of, section_list, denoter_told, same_sections}
 use Rattle.mp_ast.proofs.PlainHeadingInverse.{heading_of, heading_told}
@@ -77,8 +78,10 @@ block_of b =
 
 pub block_told : (b : Block) → block_of (plain_block b) ≡ b
 block_told b =
-    ap (λ l. block_with b l (section_list (plain_sections b.variables)) (map declaration_of (map plain_declaration b.declarations)) (statement_part_of (plain_statement_part b.statements))) (same_types b.types) ∙
-    ap (λ l. block_with b b.types l (map declaration_of (map plain_declaration b.declarations)) (statement_part_of (plain_statement_part b.statements))) (same_sections b.variables) ∙
+    ap (λ l. block_with b l (section_list (plain_sections b.variables)) (map declaration_of (map plain_declaration b.declarations))
+    (statement_part_of (plain_statement_part b.statements))) (same_types b.types) ∙
+    ap (λ l. block_with b b.types l (map declaration_of (map plain_declaration b.declarations)) (statement_part_of (plain_statement_part b.statements)))
+    (same_sections b.variables) ∙
     ap (λ l. block_with b b.types b.variables l (statement_part_of (plain_statement_part b.statements))) (same_declarations b.declarations) ∙
     ap (block_with b b.types b.variables b.declarations) (same_part b.statements)
 

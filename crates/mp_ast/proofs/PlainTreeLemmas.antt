@@ -11,7 +11,8 @@ trees_of-map :
 trees_of-map f g h each [] = refl
 trees_of-map f g h each (t ∷ l) = ap (λ u. plain.Beside (g u) (trees_of g (map h l))) (each t) ∙ ap (plain.Beside (g (f t))) (trees_of-map f g h each l)
 
-pub plain_tree-roll : (own : Block) (inside : List Tree) → plain_tree (roll-Tree (record { own = own; inside = inside })) ≡ plain.TreeOf (plain_block own) (trees_of plain_tree inside)
+pub plain_tree-roll : (own : Block) (inside : List Tree) → plain_tree (roll-Tree (record { own = own; inside = inside })) ≡
+    plain.TreeOf (plain_block own) (trees_of plain_tree inside)
 unfolding plain_tree
 plain_tree-roll own inside =
     fold-roll-Tree PlainTree layer_tree (record { own = own; inside = inside }) ∙ ap (plain.TreeOf (plain_block own)) (trees_of-map plain_tree itself _ (λ _. refl) inside)

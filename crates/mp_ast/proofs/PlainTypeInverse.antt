@@ -13,7 +13,8 @@ use Rattle.mp_ast.specs.declared.types.Denoter.TheOpen.{Denoter-F}
 use Rattle.mp_ast.specs.declared.types.Denoter.TheVariants as tree
 use Rattle.mp_ast.specs.PlainTypes as plain
 use Rattle.mp_ast.specs.PlainTypes.{PlainDenoter, PlainIndices, PlainSections, PlainVariants, indices_of, sections_of, variants_of, plain_denoter, plain_sections}
-use Rattle.mp_ast.proofs.PlainTypeLemmas.{plain_denoter-Named, plain_denoter-Enumeration, plain_denoter-Subrange, plain_denoter-Pointer, plain_denoter-Array, plain_denoter-Record, plain_denoter-Set, plain_denoter-File, plain_denoter-Fields, plain_denoter-FieldsWithVariants}
+use Rattle.mp_ast.proofs.PlainTypeLemmas.{plain_denoter-Named, plain_denoter-Enumeration, plain_denoter-Subrange, plain_denoter-Pointer, plain_denoter-Array}
+use Rattle.mp_ast.proofs.PlainTypeLemmas.{plain_denoter-Record, plain_denoter-Set, plain_denoter-File, plain_denoter-Fields, plain_denoter-FieldsWithVariants}
 
 -- ---- from plain data to the trees
 
@@ -118,7 +119,8 @@ node_told (Denoter-F.Array at packed indices component) =
     at_variant _ _ _ (tree.rolls-Array at packed _ component.0) (plain_denoter-Array at packed _ component.0)
     (ap (λ l. tree.Array at packed l (denoter_of (plain_denoter component.0))) (indices-told untold told _ (λ _. refl) indices) ∙
     ap (tree.Array at packed _) component.1)
-node_told (Denoter-F.Record at packed fields) = at_variant _ _ _ (tree.rolls-Record at packed fields.0) (plain_denoter-Record at packed fields.0) (ap (tree.Record at packed) fields.1)
+node_told (Denoter-F.Record at packed fields) =
+    at_variant _ _ _ (tree.rolls-Record at packed fields.0) (plain_denoter-Record at packed fields.0) (ap (tree.Record at packed) fields.1)
 node_told (Denoter-F.Set at packed base) = at_variant _ _ _ (tree.rolls-Set at packed base.0) (plain_denoter-Set at packed base.0) (ap (tree.Set at packed) base.1)
 node_told (Denoter-F.File at file component) = at_variant _ _ _ (tree.rolls-File at file component.0) (plain_denoter-File at file component.0) (ap (tree.File at file) component.1)
 node_told (Denoter-F.Fields fixed None) =

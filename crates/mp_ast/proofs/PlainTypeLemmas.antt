@@ -95,7 +95,8 @@ plain_denoter-Fields fixed =
     ap plain_denoter (sym (tree.rolls-Fields fixed None)) ∙ fold-roll-Denoter PlainDenoter layer_denoter (Denoter-F.Fields fixed None) ∙
     ap plain.Fields (sections_of-map plain_denoter itself _ (λ _. refl) fixed)
 
-pub plain_denoter-FieldsWithVariants : (fixed : List (Section Denoter)) (part : VariantPart Denoter) → plain_denoter (tree.Fields fixed (Some part)) ≡ plain.FieldsWithVariants (plain_sections fixed) part.at part.tag part.of (variants_of plain_denoter part.variants)
+pub plain_denoter-FieldsWithVariants : (fixed : List (Section Denoter)) (part : VariantPart Denoter) → plain_denoter (tree.Fields fixed (Some part)) ≡
+    plain.FieldsWithVariants (plain_sections fixed) part.at part.tag part.of (variants_of plain_denoter part.variants)
 unfolding plain_denoter
 plain_denoter-FieldsWithVariants fixed part =
     ap plain_denoter (sym (tree.rolls-Fields fixed (Some part))) ∙ fold-roll-Denoter PlainDenoter layer_denoter (Denoter-F.Fields fixed (Some part)) ∙

@@ -5,8 +5,12 @@ use Rattle.mp_ast.specs.ExpressionGrammar.{behind as expressions_behind}
 use Rattle.mp_ast.specs.StatementGrammar.{behind as statements_behind}
 use Rattle.mp_ast.specs.TypeGrammar.{behind as types_behind}
 use Rattle.mp_ast.specs.HeadingGrammar.{formals_behind}
-use Rattle.mp_ast.specs.ProductionExamples.{StringExample, NilExample, SignExample, NotExample, EmptySetExample, FunctionExample, ProcedureExample, GotoExample, CompoundExample, WhileExample, RepeatExample, ToExample, DowntoExample, WithExample, EnumerationExample, SignedSubrangeExample, SetExample, PackedSetExample, FileExample, PackedFileExample, PackedArrayExample, EmptyRecordExample, NoTagExample, ProceduralExample, NoResultExample, PartsExample}
-use Rattle.mp_ast.proofs.ExampleLemmas.{seq, ◌⊳◌, took, nothing, next, past_1, past_2, past_3, past_4, past_6, past_7, past_8, past_9, past_10, number_constant, factor_alone, name_access, name_expression}
+use Rattle.mp_ast.specs.ProductionExamples.{StringExample, NilExample, SignExample, NotExample, EmptySetExample, FunctionExample, ProcedureExample, GotoExample}
+use Rattle.mp_ast.specs.ProductionExamples.{CompoundExample, WhileExample, RepeatExample, ToExample, DowntoExample, WithExample, EnumerationExample}
+use Rattle.mp_ast.specs.ProductionExamples.{SignedSubrangeExample, SetExample, PackedSetExample, FileExample, PackedFileExample, PackedArrayExample}
+use Rattle.mp_ast.specs.ProductionExamples.{EmptyRecordExample, NoTagExample, ProceduralExample, NoResultExample, PartsExample}
+use Rattle.mp_ast.proofs.ExampleLemmas.{seq, ◌⊳◌, took, nothing, next, past_1, past_2, past_3, past_4, past_6, past_7, past_8, past_9, past_10, number_constant}
+use Rattle.mp_ast.proofs.ExampleLemmas.{factor_alone, name_access, name_expression}
 
 -- ---- expressions
 

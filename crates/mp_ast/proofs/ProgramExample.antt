@@ -9,7 +9,8 @@ use Rattle.mp_ast.specs.Examples.{program_tokens, program_tree, ProgramExample}
 use Rattle.mp_ast.proofs.ExampleLemmas.{seq, ◌⊳◌, took, nothing, next, past_1, past_2}
 
 -- where one opener may stand open, one more block in the program's, and two declarations
-within : (openers depth declarations : ℕ) → 0 < declarations → 1 < declarations → Derives (record { openers = suc openers; depth = suc depth; declarations = declarations }) program_tokens program_tree
+within : (openers depth declarations : ℕ) → 0 < declarations → 1 < declarations →
+    Derives (record { openers = suc openers; depth = suc depth; declarations = declarations }) program_tokens program_tree
 unfolding behind nested_block
 within openers depth declarations first second = (
   _,

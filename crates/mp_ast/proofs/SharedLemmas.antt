@@ -31,7 +31,8 @@ plain_tree-parts t = ap plain_tree (sym (node-parts t)) ∙ plain_tree-roll (own
 pub tokens_of-node : (own : Block) (inside : List Tree) → tokens_of (plain_tree (node own inside)) ≡ own.tokens + tokens_of_all (trees_of plain_tree inside)
 tokens_of-node own inside = ap tokens_of (plain_tree-roll own inside)
 
-pub declarations_of-node : (own : Block) (inside : List Tree) → declarations_of (plain_tree (node own inside)) ≡ length own.declarations + declarations_of_all (trees_of plain_tree inside)
+pub declarations_of-node : (own : Block) (inside : List Tree) → declarations_of (plain_tree (node own inside)) ≡
+    length own.declarations + declarations_of_all (trees_of plain_tree inside)
 declarations_of-node own inside =
     ap declarations_of (plain_tree-roll own inside) ∙ ap (λ n. n + declarations_of_all (trees_of plain_tree inside)) (length-map own.declarations plain_declaration)
 

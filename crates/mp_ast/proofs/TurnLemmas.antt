@@ -18,7 +18,8 @@ use Rattle.mp_ast.specs.BlockLists.{placed}
 use Rattle.mp_ast.proofs.DescentLemmas.{index_by_steps}
 use Rattle.mp_ast.proofs.SharedLemmas.{plain_tree-parts}
 use Rattle.mp_ast.proofs.NestedLemmas.{Remain, with_blocks, nested_by, all_remain, few_remain, start_is_small, next_is_small, next_remain}
-use Rattle.mp_ast.proofs.WalkLemmas.{is_step, is_other_name, is_other_number, one_more_named, no_more_named, counts_are_few, entered_here, entered_past, index_here, index_past, blocks_turn, entered_none, index_last, blocks_none}
+use Rattle.mp_ast.proofs.WalkLemmas.{is_step, is_other_name, is_other_number, one_more_named, no_more_named, counts_are_few, entered_here, entered_past}
+use Rattle.mp_ast.proofs.WalkLemmas.{index_here, index_past, blocks_turn, entered_none, index_last, blocks_none}
 
 -- a block of a program's tree, in its parts
 abbrev parts : Tree → PlainTree

@@ -12,7 +12,8 @@ use Rattle.mp_ast.specs.Rules.{Rule, joined}
 use Rattle.mp_ast.specs.BlockGrammar.{Limits, Declared, declaration, statement_part, block_with, nested_block, program}
 use Rattle.mp_ast.specs.Programs.{Derives, start_of}
 use Rattle.mp_ast.specs.PlainTypes.{plain_denoter}
-use Rattle.mp_ast.specs.PlainTrees.{PlainTree, PlainTrees, TreeOf, NoTrees, Beside, statements_of_part, plain_type_definition, plain_declaration, plain_statement_part, plain_block, trees_of, plain_tree}
+use Rattle.mp_ast.specs.PlainTrees.{PlainTree, PlainTrees, TreeOf, NoTrees, Beside, statements_of_part, plain_type_definition, plain_declaration}
+use Rattle.mp_ast.specs.PlainTrees.{plain_statement_part, plain_block, trees_of, plain_tree}
 use Rattle.mp_ast.specs.Blocks.{Nested, nested_in, tokens_of, PlacedBlock, blocks_from, blocks_inside, blocks}
 use Rattle.mp_ast.specs.WellFormed.{IsType, IsDenoter, HasStatement, AreStatements, AreTypeDefinitions, AreDeclarations, IsWellFormed}
 use Rattle.mp_ast.proofs.PlainTreeLemmas.{plain_tree-roll}

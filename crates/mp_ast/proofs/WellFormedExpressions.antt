@@ -13,11 +13,16 @@ use Rattle.mp_ast.specs.declared.expressions.Operation.{Operation}
 use Rattle.mp_ast.specs.declared.expressions.Expr.{Expr}
 use Rattle.mp_ast.specs.declared.expressions.Expr.TheVariants as e
 use Rattle.mp_ast.specs.Rules.{Rule}
-use Rattle.mp_ast.specs.ExpressionGrammar.{Deeper, behind, operation, relational_operator, adding_operator, multiplying_operator, product, sum, relation, access_with, actuals_with, member, factor_with, term, simple_expression, expression_with, expression, access, actuals}
+use Rattle.mp_ast.specs.ExpressionGrammar.{Deeper, behind, operation, relational_operator, adding_operator, multiplying_operator, product, sum, relation}
+use Rattle.mp_ast.specs.ExpressionGrammar.{access_with, actuals_with, member, factor_with, term, simple_expression, expression_with, expression, access}
+use Rattle.mp_ast.specs.ExpressionGrammar.{actuals}
 use Rattle.mp_ast.specs.PlainExpressions as plain
-use Rattle.mp_ast.specs.PlainExpressions.{PlainExpr, PlainSelectors, PlainActuals, PlainMembers, selectors_of, with_selector, with_actual, with_member, members_of, operations_of, plain_expr, plain_access, plain_actuals}
-use Rattle.mp_ast.specs.WellFormed.{IsSome, IsRelational, IsAdding, IsMultiplying, IsFactor, IsTerm, IsSimple, HasActual, IsExpression, AreSelectors, AreActuals, AreMembers, AreOperations, IsAccess}
-use Rattle.mp_ast.proofs.PlainExpressionLemmas.{plain_expr-Number, plain_expr-Text, plain_expr-Nil, plain_expr-Access, plain_expr-Call, plain_expr-Inside, plain_expr-Not, plain_expr-Set, plain_expr-Product, plain_expr-Sum, plain_expr-Relation}
+use Rattle.mp_ast.specs.PlainExpressions.{PlainExpr, PlainSelectors, PlainActuals, PlainMembers, selectors_of, with_selector, with_actual, with_member}
+use Rattle.mp_ast.specs.PlainExpressions.{members_of, operations_of, plain_expr, plain_access, plain_actuals}
+use Rattle.mp_ast.specs.WellFormed.{IsSome, IsRelational, IsAdding, IsMultiplying, IsFactor, IsTerm, IsSimple, HasActual, IsExpression, AreSelectors}
+use Rattle.mp_ast.specs.WellFormed.{AreActuals, AreMembers, AreOperations, IsAccess}
+use Rattle.mp_ast.proofs.PlainExpressionLemmas.{plain_expr-Number, plain_expr-Text, plain_expr-Nil, plain_expr-Access, plain_expr-Call, plain_expr-Inside}
+use Rattle.mp_ast.proofs.PlainExpressionLemmas.{plain_expr-Not, plain_expr-Set, plain_expr-Product, plain_expr-Sum, plain_expr-Relation}
 use Rattle.mp_ast.proofs.Yielding.{Yields, Any, Optional, Row, any, nothing, never, next, past, made, either, maybe, repeated, repeated_lists, row, all_of}
 
 -- ---- what operands are

@@ -24,7 +24,8 @@ formals_yield_with room c =
     (either (past (λ at. next (row {P = Any} any) (λ names v. made any (λ of u.
     subst IsFormal (sym (plain_formal_section-Variables at names of)) v.0))))
     (either (past (λ at. past (λ name. next (either c (nothing tt)) (λ own v. nothing (subst IsFormal (sym (plain_formal_section-Procedure at name own)) (formals_are own v))))))
-    (past (λ at. past (λ name. next (either c (nothing tt)) (λ own v. made any (λ of u. subst IsFormal (sym (plain_formal_section-Function at name own of)) (formals_are own v)))))))))))
+    (past (λ at. past (λ name.
+    next (either c (nothing tt)) (λ own v. made any (λ of u. subst IsFormal (sym (plain_formal_section-Function at name own of)) (formals_are own v)))))))))))
     (λ sections v. past (λ end. nothing v)))
 
 behind_yields : (room : ℕ) → Yields (AllByRecursion Good) (formals_behind room)

@@ -12,7 +12,9 @@ use Rattle.mp_ast.specs.StatementGrammar.{Deeper, behind, unlabelled, statement_
 use Rattle.mp_ast.specs.PlainExpressions.{plain_expr, plain_access}
 use Rattle.mp_ast.specs.PlainStatements.{PlainStatement, arms_of, plain_head, plain_statement, plain_statements}
 use Rattle.mp_ast.specs.WellFormed.{IsSome, IsExpression, IsAccess, AreAccesses, IsUnlabelled, HasStatement, HasArm, IsStatement, AreStatements, AreArms}
-use Rattle.mp_ast.proofs.PlainStatementLemmas.{plain_statement-Labelled, plain_statement-Empty, plain_statement-Assign, plain_statement-Call, plain_statement-Goto, plain_statement-Compound, plain_statement-If, plain_statement-IfElse, plain_statement-Case, plain_statement-While, plain_statement-Repeat, plain_statement-For, plain_statement-With}
+use Rattle.mp_ast.proofs.PlainStatementLemmas.{plain_statement-Labelled, plain_statement-Empty, plain_statement-Assign, plain_statement-Call}
+use Rattle.mp_ast.proofs.PlainStatementLemmas.{plain_statement-Goto, plain_statement-Compound, plain_statement-If, plain_statement-IfElse, plain_statement-Case}
+use Rattle.mp_ast.proofs.PlainStatementLemmas.{plain_statement-While, plain_statement-Repeat, plain_statement-For, plain_statement-With}
 use Rattle.mp_ast.proofs.Yielding.{Yields, Any, Optional, Row, any, nothing, never, next, past, made, either, row, all_of}
 use Rattle.mp_ast.proofs.WellFormedExpressions.{Whole, actuals_are, expression_yields, access_yields, actuals_yields}
 

@@ -12,7 +12,8 @@ use Rattle.mp_ast.specs.TypeGrammar.{Deeper, behind, simple_type, section, struc
 use Rattle.mp_ast.specs.PlainTypes as plain
 use Rattle.mp_ast.specs.PlainTypes.{PlainDenoter, indices_of, variants_of, plain_denoter, plain_sections}
 use Rattle.mp_ast.specs.WellFormed.{IsSome, IsSimpleType, IsFieldList, IsType, HasVariant, IsDenoter, AreIndices, AreSections, AreVariants}
-use Rattle.mp_ast.proofs.PlainTypeLemmas.{plain_denoter-Named, plain_denoter-Enumeration, plain_denoter-Subrange, plain_denoter-Pointer, plain_denoter-Array, plain_denoter-Record, plain_denoter-Set, plain_denoter-File, plain_denoter-Fields, plain_denoter-FieldsWithVariants}
+use Rattle.mp_ast.proofs.PlainTypeLemmas.{plain_denoter-Named, plain_denoter-Enumeration, plain_denoter-Subrange, plain_denoter-Pointer, plain_denoter-Array}
+use Rattle.mp_ast.proofs.PlainTypeLemmas.{plain_denoter-Record, plain_denoter-Set, plain_denoter-File, plain_denoter-Fields, plain_denoter-FieldsWithVariants}
 use Rattle.mp_ast.proofs.Yielding.{Yields, Any, Optional, Row, any, nothing, never, next, past, made, either, maybe, repeated, row}
 
 abbrev pub Good : Denoter → Type 0
@@ -117,7 +118,8 @@ module _ (room : ℕ) (b : Deeper) (c : DeeperYields b) where
   part_yields : Yields GoodPart (variant_part room b)
   part_yields =
       past (λ at. past (λ tag. past (λ of. past (λ word.
-      next (row {P = GoodVariant} (next (row {P = Any} any) (λ constants v. past (λ colon. past (λ parenthesis. next c.field_list (λ found w. past (λ end. nothing (v.0, w.0, w.1))))))))
+      next (row {P = GoodVariant}
+      (next (row {P = Any} any) (λ constants v. past (λ colon. past (λ parenthesis. next c.field_list (λ found w. past (λ end. nothing (v.0, w.0, w.1))))))))
       (λ variants v. nothing v)))))
 
   field_list_yields_with : Yields FieldList (field_list_with room b)

@@ -1,5 +1,6 @@
 -- Code of the right shape stays inside.
-use Rattle.std.proofs.Common.{◌≡◌, ⊎_elim, ℕ, zero, suc, ◌+◌, ◌-◌, ◌<◌, ◌≤◌, Bool, true, false, not, ◌||◌, ◌&&◌, List, [], ◌∷◌, length, Option, Some, None, refl, sym, ap, ◌∙◌, subst, arith, eqb-true, eq-eqb}
+use Rattle.std.proofs.Common.{◌≡◌, ⊎_elim, ℕ, zero, suc, ◌+◌, ◌-◌, ◌<◌, ◌≤◌, Bool, true, false, not, ◌||◌, ◌&&◌, List, [], ◌∷◌, length, Option, Some, None}
+use Rattle.std.proofs.Common.{refl, sym, ap, ◌∙◌, subst, arith, eqb-true, eq-eqb}
 use Rattle.std.specs.Prelude.{nat_eq, nat_le, nat_lt, slice_get}
 use Rattle.std.specs.List.{list_any, list_all}
 use Rattle.std.proofs.lemmas.Bool.{and_parts, or_cases}
@@ -8,7 +9,8 @@ use Rattle.mp_code.specs.declared.instructions.Operation.{Operation}
 use Rattle.mp_code.specs.declared.check.TheConstants.{OPERAND_LIMIT}
 use Rattle.mp_code.specs.BlockCode.{BlockCode, index_of_label}
 use Rattle.mp_code.specs.Reached.{Reached, Begun, Labelled, Led, IsServed, ReachedIsServed, is_one_of}
-use Rattle.mp_code.specs.Shape.{IsShaped, takes, puts, successors, is_bare, fails_at, is_wrong_start, is_wrong_length, is_wrong_label, is_wrong_instruction, instruction_is_right, leads_well, is_depth, is_right}
+use Rattle.mp_code.specs.Shape.{IsShaped, takes, puts, successors, is_bare, fails_at, is_wrong_start, is_wrong_length, is_wrong_label, is_wrong_instruction}
+use Rattle.mp_code.specs.Shape.{instruction_is_right, leads_well, is_depth, is_right}
 use Rattle.mp_code.proofs.ShapeLemmas.{at_most}
 
 -- ---- the shape at an index, clause by clause

@@ -1,11 +1,13 @@
 -- The index that is found is the least one at which a clause fails.
-use Rattle.std.proofs.Common.{◌≡◌, ◌⊎◌, inl, inr, ⊎_elim, ℕ, zero, suc, ◌+◌, ◌<◌, ◌≤◌, Bool, true, false, not, ◌||◌, List, [], ◌∷◌, ◌++◌, length, map, Option, Some, None, MatchOption, refl, sym, ap, ◌∙◌, subst, arith, eqb-true}
+use Rattle.std.proofs.Common.{◌≡◌, ◌⊎◌, inl, inr, ⊎_elim, ℕ, zero, suc, ◌+◌, ◌<◌, ◌≤◌, Bool, true, false, not, ◌||◌, List, [], ◌∷◌, ◌++◌, length, map, Option}
+use Rattle.std.proofs.Common.{Some, None, MatchOption, refl, sym, ap, ◌∙◌, subst, arith, eqb-true}
 use Rattle.std.specs.Prelude.{nat_eq, nat_le, slice_get}
 use Rattle.std.specs.List.{list_any, range_with_len}
 use Rattle.std.proofs.lemmas.Bool.{and_parts, or_cases}
 use Rattle.std.proofs.lemmas.Option.{slice_get_past}
 use Rattle.mp_code.specs.BlockCode.{BlockCode}
-use Rattle.mp_code.specs.Shape.{IsShaped, IsFirstBad, FirstBadIsLeast, fails_at, is_wrong_start, is_wrong_length, is_wrong_label, is_wrong_instruction, instruction_is_right, leads_well, shorter, lesser_of, least_that, suspects, first_bad}
+use Rattle.mp_code.specs.Shape.{IsShaped, IsFirstBad, FirstBadIsLeast, fails_at, is_wrong_start, is_wrong_length, is_wrong_label, is_wrong_instruction}
+use Rattle.mp_code.specs.Shape.{instruction_is_right, leads_well, shorter, lesser_of, least_that, suspects, first_bad}
 
 pub at_most : (k m : ℕ) → nat_le k m ≡ true → k ≤ m
 at_most k m is = grind (arith, is)

@@ -10,7 +10,8 @@ use Rattle.mp_files.specs.declared.causes.TheConstants.{END_OF_FILE}
 use Rattle.mp_files.specs.declared.stored_file.Place.{Place}
 use Rattle.mp_files.specs.declared.stored_file.Place.TheVariants as place
 use Rattle.mp_files.specs.Items.{is_character, is_line_end}
-use Rattle.mp_files.specs.TextFiles.{FileCall, Gives, Fails, Reading, at_item, begins_with_line_end, contents, eof, eoln, get, is_nothing, is_unfinished, is_writing, moved, page_items, read_line, shown, shown_item}
+use Rattle.mp_files.specs.TextFiles.{FileCall, Gives, Fails, Reading, at_item, begins_with_line_end, contents, eof, eoln, get, is_nothing, is_unfinished}
+use Rattle.mp_files.specs.TextFiles.{is_writing, moved, page_items, read_line, shown, shown_item}
 use Rattle.mp_files.specs.Stored.{file_kept}
 use Rattle.mp_files.proofs.ReadingLemmas.{drop_item, drop_end}
 

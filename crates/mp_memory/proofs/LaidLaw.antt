@@ -33,7 +33,8 @@ cells_are_laid_over cells o new l = record {
   as_many = laid_length cells o new l;
   before = λ k less. get_first front behind k (omega (arith, len, less)) ∙ get_first (take o cells) new k (omega (arith, taken, less)) ∙ get_taken cells o k less;
   inside = λ k less. get_first front behind (o + k) (omega (arith, len, less)) ∙ get_second (take o cells) new k (o + k) (omega (arith, taken));
-  behind = λ k more. get_second front behind (k - (o + length new)) k (omega (arith, len, more)) ∙ get_dropped cells (o + length new) (k - (o + length new)) k (omega (arith, more));
+  behind = λ k more. get_second front behind (k - (o + length new)) k (omega (arith, len, more)) ∙
+      get_dropped cells (o + length new) (k - (o + length new)) k (omega (arith, more));
 }
   where
     front : List Cell

@@ -1,5 +1,6 @@
 -- Lanes of 64 bits.
-use Rattle.std.proofs.Common.{◌≡◌, ◌≢◌, ℕ, zero, suc, ◌+◌, ◌-◌, ◌*◌, ◌%◌, ◌/◌, ◌^◌, ◌<◌, ◌≤◌, List, [], ◌∷◌, filter, min, max, Bool, true, false, ◌&&◌, ◌||◌, not, refl, sym, ap, ap₂, ◌∙◌, subst, arith, w64, bit_and, bit_or, ◌⊎◌, inl, inr, ⊎_elim}
+use Rattle.std.proofs.Common.{◌≡◌, ◌≢◌, ℕ, zero, suc, ◌+◌, ◌-◌, ◌*◌, ◌%◌, ◌/◌, ◌^◌, ◌<◌, ◌≤◌, List, [], ◌∷◌, filter, min, max, Bool, true, false, ◌&&◌, ◌||◌}
+use Rattle.std.proofs.Common.{not, refl, sym, ap, ap₂, ◌∙◌, subst, arith, w64, bit_and, bit_or, ◌⊎◌, inl, inr, ⊎_elim}
 use Rattle.std.specs.Prelude.{Decides, nat_eq, nat_lt, if◌then◌else◌}
 use Rattle.std.specs.Int.{bit_at, bit_not}
 use Rattle.std.proofs.lemmas.Bool.{eqb-true, eq-eqb, ne_eqb, ltb-true, ltb-false, lt-ltb, le-ltb}

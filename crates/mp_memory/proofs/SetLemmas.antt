@@ -1,5 +1,6 @@
 -- Sets as the lists of their members: the operations of the lanes are those of the lists, and the lists' laws.
-use Rattle.std.proofs.Common.{◌≡◌, ℕ, zero, suc, ◌+◌, ◌<◌, Bool, cond, true, false, not, ◌&&◌, ◌||◌, List, [], ◌∷◌, ◌++◌, filter, refl, sym, ap, ap₂, ◌∙◌, subst, arith, eqb-true, eq-eqb, inl, inr, ⊎_elim}
+use Rattle.std.proofs.Common.{◌≡◌, ℕ, zero, suc, ◌+◌, ◌<◌, Bool, cond, true, false, not, ◌&&◌, ◌||◌, List, [], ◌∷◌, ◌++◌, filter, refl, sym, ap, ap₂, ◌∙◌}
+use Rattle.std.proofs.Common.{subst, arith, eqb-true, eq-eqb, inl, inr, ⊎_elim}
 use Rattle.std.specs.Prelude.{nat_eq, if◌then◌else◌}
 use Rattle.std.specs.List.{range_with_len}
 use Rattle.std.proofs.lemmas.Bool.{lt-ltb, and_parts, or_cases}
@@ -7,7 +8,8 @@ use Rattle.std.proofs.lemmas.Bool.Decides.{eqb_tells}
 use Rattle.mp_memory.specs.declared.bits.Bits.{Bits}
 use Rattle.mp_memory.specs.Members.{holds, members, joined, common, without, are_in}
 use Rattle.mp_memory.specs.Members as bits
-use Rattle.mp_memory.specs.Sets.{numbers, NumbersAreARange, is_member, members_that, union, with_member, intersection, difference, is_included, IsSet, HasMembers, SetsAreByMembersLaw}
+use Rattle.mp_memory.specs.Sets.{numbers, NumbersAreARange, is_member, members_that, union, with_member, intersection, difference, is_included, IsSet}
+use Rattle.mp_memory.specs.Sets.{HasMembers, SetsAreByMembersLaw}
 use Rattle.mp_memory.proofs.MemberLists.{numbers_more, numbers_none, member_filter, filter_same, are_in_filter}
 
 -- ---- numbers from 0 on

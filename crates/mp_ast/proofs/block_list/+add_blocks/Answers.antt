@@ -25,13 +25,15 @@ next_number-requires t c = record { few = counts_are_small c.args.tree.now c.arg
 pub overflow_add-behind : goal.overflow_add-behind
 overflow_add-behind t c =
     let r = rest_from c.inside-inside.result.now c.nested.nested-index c.nested-item.result c.nested-test.true c.nested-item.is in
-    let s = block_is_small c.args.tree.now c.args.path.now _ _ _ _ _ _ c.nested.invariant c.in-Some.declaration.now c.in-Some.more.now c.nested-item.result _ c.in-Some.ensures r in
+    let s = block_is_small c.args.tree.now c.args.path.now _ _ _ _ _ _ c.nested.invariant c.in-Some.declaration.now c.in-Some.more.now c.nested-item.result _
+    c.in-Some.ensures r in
     omega (arith, s)
 
 pub overflow_add-behind-in-nested : goal.overflow_add-behind-in-nested
 overflow_add-behind-in-nested t c =
     let r = rest_from c.inside-inside.result.now c.nested.nested-index c.nested-item.result c.nested-test.true c.nested-item.is in
-    let s = block_is_small c.args.tree.now c.args.path.now _ _ _ _ _ _ c.nested.invariant c.in-Some.declaration.now c.in-Some.more.now c.nested-item.result _ c.in-Some.ensures r in
+    let s = block_is_small c.args.tree.now c.args.path.now _ _ _ _ _ _ c.nested.invariant c.in-Some.declaration.now c.in-Some.more.now c.nested-item.result _
+    c.in-Some.ensures r in
     omega (arith, s)
 
 pub add_blocks-requires : goal.add_blocks-requires

@@ -1,4 +1,5 @@
-use Rattle.mp_ast.proofs.ProductionExamples.{enumeration_example, signed_subrange_example, set_example, packed_set_example, file_example, packed_file_example, packed_array_example, empty_record_example, no_tag_example}
+use Rattle.mp_ast.proofs.ProductionExamples.{enumeration_example, signed_subrange_example, set_example, packed_set_example, file_example, packed_file_example}
+use Rattle.mp_ast.proofs.ProductionExamples.{packed_array_example, empty_record_example, no_tag_example}
 use Rattle.mp_ast.proofs.examples.each_type.Goals as goal
 
 pub returns-clause-enumeration : goal.returns-clause-enumeration

@@ -49,7 +49,9 @@ nested-preserved c =
     let further = ap (λ n. c.nested.start + n) c.tokens-start.ensures in
     elim c.if-same.branch [
       | then-same+else-named-step w ↦ entering_at _ _ further w.named-is
-          (another_number t c.args.first c.args.step.now _ _ _ _ c.nested.invariant _ c.in-Some.more.now _ _ c.in-Some.ensures r (c.same.ensures.0 w.if-same.true) w.if-named-step.false)
+          (another_number t c.args.first c.args.step.now _ _ _ _ c.nested.invariant _ c.in-Some.more.now _ _ c.in-Some.ensures r (c.same.ensures.0 w.if-same.true)
+          w.if-named-step.false)
       | else-same w ↦ entering_at _ _ further w.named-is
-          (another_name t c.args.first c.args.step.now _ _ _ _ c.nested.invariant _ c.in-Some.more.now _ _ c.in-Some.ensures r (λ e. false≢true (sym w.if-same.false ∙ c.same.ensures.1 e)))
+          (another_name t c.args.first c.args.step.now _ _ _ _ c.nested.invariant _ c.in-Some.more.now _ _ c.in-Some.ensures r
+          (λ e. false≢true (sym w.if-same.false ∙ c.same.ensures.1 e)))
     ]

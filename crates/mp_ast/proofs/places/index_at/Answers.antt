@@ -28,7 +28,8 @@ pub nested-preserved : goal.nested-preserved
 nested-preserved c =
     let r = rest_from c.inside-inside.result.now c.nested.tree-index c.tree-item.result c.nested-test.true c.tree-item.is in
     indexing_at _ (ap (λ n. c.nested.start + n) c.tokens-start.ensures)
-    (further_index c.args.block.now c.args.first c.args.ordinal _ _ _ c.nested.invariant _ c.in-Some.more.now _ _ c.in-Some.ensures r (omega (arith, c.if-ordinal-declaration.false)))
+    (further_index c.args.block.now c.args.first c.args.ordinal _ _ _ c.nested.invariant _ c.in-Some.more.now _ _ c.in-Some.ensures r
+    (omega (arith, c.if-ordinal-declaration.false)))
 
 pub returns : goal.returns
 returns c =

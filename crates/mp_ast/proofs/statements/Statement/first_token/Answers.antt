@@ -1,5 +1,7 @@
 use Rattle.std.proofs.Common.{refl, sym, ap, ◌∙◌}
-use Rattle.mp_ast.proofs.PlainStatementLemmas.{plain_statement-Labelled, plain_statement-Empty, plain_statement-Assign, plain_statement-Call, plain_statement-Goto, plain_statement-Compound, plain_statement-Case, plain_statement-While, plain_statement-Repeat, plain_statement-For, plain_statement-With}
+use Rattle.mp_ast.proofs.PlainStatementLemmas.{plain_statement-Labelled, plain_statement-Empty, plain_statement-Assign, plain_statement-Call}
+use Rattle.mp_ast.proofs.PlainStatementLemmas.{plain_statement-Goto, plain_statement-Compound, plain_statement-Case, plain_statement-While}
+use Rattle.mp_ast.proofs.PlainStatementLemmas.{plain_statement-Repeat, plain_statement-For, plain_statement-With}
 use Rattle.mp_ast.proofs.FirstTokenLemmas.{statement_begins, if_begins}
 use Rattle.mp_ast.proofs.statements.Statement.first_token.Goals as goal
 
@@ -10,7 +12,8 @@ pub returns-in-Empty : goal.returns-in-Empty
 returns-in-Empty c = sym (statement_begins _ _ _ _ c.in-Empty.is (plain_statement-Empty c.in-Empty.at) refl)
 
 pub returns-in-Assign : goal.returns-in-Assign
-returns-in-Assign c = c.first_token.ensures ∙ sym (statement_begins _ _ _ _ c.in-Assign.is (plain_statement-Assign c.in-Assign.variable c.in-Assign.field-1 c.in-Assign.field-2) refl)
+returns-in-Assign c = c.first_token.ensures ∙
+    sym (statement_begins _ _ _ _ c.in-Assign.is (plain_statement-Assign c.in-Assign.variable c.in-Assign.field-1 c.in-Assign.field-2) refl)
 
 pub returns-in-Call : goal.returns-in-Call
 returns-in-Call c = sym (statement_begins _ _ _ _ c.in-Call.is (plain_statement-Call c.in-Call.name c.in-Call.field-1) refl)
