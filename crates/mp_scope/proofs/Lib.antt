@@ -1,3 +1,4 @@
 pub mod KeptLemmas
 pub mod GrownLemmas
 pub mod ClosedLemmas
+pub mod NestedLemmas

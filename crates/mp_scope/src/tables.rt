@@ -77,17 +77,28 @@ impl Tables {
 
     /// The table of the block with this path, where it was added.
     pub fn get(&self, path: &Path) -> Option<&Table>
-        ensures table { option_copied result ≡ table_at self.now path.now }
-        ensures closed { Closed self.now }
+        ensures { option_copied result ≡ table_at self.now path.now }
     {
         self.at(path.steps())
     }
 
-    /// The same, by the path's steps.
+    // The same, by the path's steps.
     pub(crate) fn at(&self, steps: &[PathStep]) -> Option<&Table>
-        ensures table { option_copied result ≡ table_at self.now steps.now }
-        ensures closed { Closed self.now }
+        ensures { option_copied result ≡ table_at self.now steps.now }
     {
         self.blocks.get(Steps { steps })
+    }
+
+    /// Every identity and every path that the tables hold stands by them. It does nothing: it only says so.
+    pub fn stand(&self)
+        ensures { Closed self.now }
+    {
+        let _ = &self.blocks;
+    }
+    /// The tables, in the order in which they were added.
+    pub fn as_slice(&self) -> &[Table]
+        ensures { result.now ≡ self.now }
+    {
+        self.blocks.values().as_slice()
     }
 }
