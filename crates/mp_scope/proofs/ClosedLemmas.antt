@@ -8,10 +8,8 @@ use Rattle.mp_base.specs.declared.place.Place.{Place}
 use Rattle.mp_ast.specs.Blocks.{same_step, same_path}
 use Rattle.mp_tables.specs.declared.types.TypeId.{TypeId}
 use Rattle.mp_tables.specs.declared.types.TypeId.TheVariants as type
-use Rattle.mp_tables.specs.declared.types.Shape.{Shape}
 use Rattle.mp_tables.specs.declared.types.Shape.TheVariants as shape
 use Rattle.mp_tables.specs.declared.required.Required.{Required}
-use Rattle.mp_tables.specs.declared.declarations.Decl.TheVariants as decl
 use Rattle.mp_tables.specs.declared.questions.Seen.{Seen}
 use Rattle.mp_tables.specs.declared.questions.Seen.TheVariants as see
 use Rattle.mp_tables.specs.declared.tables.Entry.{Entry}
@@ -19,8 +17,8 @@ use Rattle.mp_tables.specs.declared.tables.Nested.{Nested}
 use Rattle.mp_tables.specs.declared.tables.Shaped.{Shaped}
 use Rattle.mp_tables.specs.declared.tables.Table.{Table}
 use Rattle.mp_tables.specs.RequiredNames.{required_name}
-use Rattle.mp_tables.specs.Seen.{table_at, seen_entry, here, nested_in, semicolon_of, declared_or, seen_from, around_program, seen, shape_in, own_shape, shape_of, nested_at, heading_or_none, heading_of, state_of, answers_of}
-use Rattle.mp_tables.specs.Standing.{Types, Paths, DeclStands, SeenStands, ShapeStands, HeadingStands, TableStands}
+use Rattle.mp_tables.specs.Seen.{table_at, seen_entry, here, nested_in, semicolon_of, declared_or, seen_from, around_program, seen, shape_in, own_shape, shape_of, nested_at, heading_or_none, heading_of, state_of}
+use Rattle.mp_tables.specs.Standing.{Types, Paths, DeclStands, SeenStands, ShapeStands, HeadingStands}
 use Rattle.mp_scope.specs.Kept.{StandsIn, Closed}
 
 -- what a search finds has what all have

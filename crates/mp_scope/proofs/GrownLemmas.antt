@@ -1,7 +1,6 @@
 -- What stands by tables goes on to stand when more tables follow.
-use Rattle.std.proofs.Common.{◌≡◌, ℕ, Bool, true, false, cond, IsTrue, ◌||◌, List, [], ◌∷◌, ◌++◌, Option, Some, None, refl, sym, ap, ◌∙◌, subst}
+use Rattle.std.proofs.Common.{◌≡◌, Bool, true, false, cond, IsTrue, ◌||◌, List, [], ◌∷◌, ◌++◌, Option, Some, None, refl, ap, ◌∙◌}
 use Rattle.std.specs.Prelude.{find, is_some, option_and_then}
-use Rattle.std.specs.List.{AllByRecursion}
 use Rattle.mp_base.specs.declared.path.PathStep.{PathStep}
 use Rattle.mp_ast.specs.Blocks.{same_step, same_path}
 use Rattle.mp_ast.proofs.PathLemmas.{all-map, all-append}
@@ -18,7 +17,7 @@ use Rattle.mp_tables.specs.declared.declarations.Decl.TheVariants as decl
 use Rattle.mp_tables.specs.declared.tables.Nested.{Nested}
 use Rattle.mp_tables.specs.declared.tables.Table.{Table}
 use Rattle.mp_tables.specs.Seen.{table_at, nested_in, nested_at, shape_of, path_stands, state_of}
-use Rattle.mp_tables.specs.Standing.{Types, Paths, PathStands, PathIfStands, TypeStands, TypeIfStands, BoundsStand, ShapeStands, HeadingStands, HeadingIfStands, ConstantStands, DeclStands, TableStands}
+use Rattle.mp_tables.specs.Standing.{Types, Paths, PathIfStands, TypeStands, TypeIfStands, BoundsStand, ShapeStands, HeadingStands, HeadingIfStands, ConstantStands, DeclStands, TableStands}
 use Rattle.mp_tables.proofs.GrowthLemmas.{shapes_stay}
 use Rattle.mp_scope.specs.Kept.{StandsIn, Closed}
 
@@ -44,9 +43,10 @@ module _ (types more : Types) (f : (id : TypeId) → IsTrue (types id) → IsTru
   shape_more (shape.Range b) h = type_more b.host h
   shape_more (shape.Names names) h = tt
   shape_more (shape.Arr a) h = (bounds_more a.index h.0, type_if_more a.component h.1)
-  shape_more (shape.Rec r) h =
-      (all-map (λ s. TypeIfStands types s.of) (λ s. TypeIfStands more s.of) (λ s. type_if_more s.of) r.slots h.0,
-      all-map (λ p. TypeIfStands types p.host) (λ p. TypeIfStands more p.host) (λ p. type_if_more p.host) r.parts h.1)
+  shape_more (shape.Rec r) h = (
+    all-map (λ s. TypeIfStands types s.of) (λ s. TypeIfStands more s.of) (λ s. type_if_more s.of) r.slots h.0,
+    all-map (λ p. TypeIfStands types p.host) (λ p. TypeIfStands more p.host) (λ p. type_if_more p.host) r.parts h.1,
+  )
   shape_more (shape.SetOf packed base) h = bounds_more base h
   shape_more (shape.Ptr domain) h = type_if_more domain h
   shape_more shape.Text h = tt
@@ -98,7 +98,7 @@ find_front test (y ∷ xs) ys x h = by (test y) (find_front test xs ys x) h
     by true f e = e
     by false f e = f e
 
-table_front : (tables more : List Table) (path : List PathStep) (t : Table) → table_at tables path ≡ Some t → table_at (tables ++ more) path ≡ Some t
+pub table_front : (tables more : List Table) (path : List PathStep) (t : Table) → table_at tables path ≡ Some t → table_at (tables ++ more) path ≡ Some t
 table_front tables more path t h = find_front (λ x. same_path path x.path) tables more t h
 
 some_more : {A : Type 0} (o p : Option A) → ((x : A) → o ≡ Some x → p ≡ Some x) → IsTrue (is_some o) → IsTrue (is_some p)

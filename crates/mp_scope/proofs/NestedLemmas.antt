@@ -1,7 +1,6 @@
 -- A block is found in the block around it: the search for it from the program inward ends there.
-use Rattle.std.proofs.Common.{◌≡◌, Bool, true, false, ◌&&◌, List, [], ◌∷◌, ◌++◌, length, take, refl, sym, ap, ◌∙◌, append_assoc, append-nil}
+use Rattle.std.proofs.Common.{◌≡◌, Bool, ◌&&◌, List, [], ◌∷◌, ◌++◌, refl, sym, ap, ◌∙◌, append_assoc, append-nil}
 use Rattle.std.specs.List.{starts_with}
-use Rattle.std.specs.Cmp.Lexicographic.{pointwise}
 use Rattle.mp_base.specs.declared.path.PathStep.{PathStep}
 use Rattle.mp_ast.specs.Blocks.{same_step}
 use Rattle.mp_tables.specs.declared.tables.Table.{Table}

@@ -159,7 +159,8 @@ pub fn assigns(tables: &Tables, path: &[PathStep]) -> bool
     ensures { result ≡ spec.assigns_of tables.now path.now }
 {
     match nested_at(tables, path) {
-        Some(nested) => !nested.function || assigned_within(tables.as_slice(), path, &nested.step.name),
+        Some(nested) => !nested.function
+            || assigned_within(tables.as_slice(), path, &nested.step.name),
         None => true,
     }
 }

@@ -1,14 +1,16 @@
-ghost use Rattle.std.specs.Prelude.{◌≡◌, IfOk, None, unwrap_or};
+ghost use Rattle.std.specs.Prelude.{◌≡◌, ◌↔◌, IfOk, IsTrue, None, unwrap_or};
 ghost use Rattle.mp_tables.specs.declared.types.Shape.TheVariants as shape;
 ghost use Rattle.mp_tables.specs.Seen as spec;
 ghost use Rattle.mp_tables.specs.Seen.{state_of};
+ghost use Rattle.mp_scope.specs.Gives.{Gives};
 
+use crate::given::is_given;
 use crate::scope::Scope;
 use crate::search::{assigns, nested_at, own_shape, seen};
 use crate::sight::copied;
 use crate::tables::Tables;
 use mp_base::{Memory, Name, Path, PathStep, Place};
-use mp_tables::{Heading, Seen, Shape, Shared, TypeId};
+use mp_tables::{Asked, Heading, Seen, Shape, Shared, TypeId};
 use mp_types::required_shape;
 use sqlite_items::Items;
 use std::alloc::Global;
@@ -74,5 +76,16 @@ impl<'a> Scope for TableScope<'a> {
 
     fn assigns(&mut self, path: &Path) -> Result<bool, Memory> {
         Ok(assigns(self.tables, path.steps()))
+    }
+}
+
+impl<'a> TableScope<'a> {
+    /// Whether the scope gives this answer: false where the type or the block that is asked of does not stand in it, and
+    /// otherwise true exactly where its answer to the question is this one.
+    pub fn gives(&self, pair: &Asked) -> bool
+        ensures { IsTrue result ↔ Gives self.now.tables.now pair.now }
+    {
+        let given = is_given(self.tables, &pair.question, &pair.answer);
+        given
     }
 }

@@ -36,7 +36,7 @@ impl<'a> Equivalent<Path> for Steps<'a> {
 /// time that does not grow with their number. Every identity and path in them stands.
 #[derive(Drop)]
 pub struct Tables {
-    blocks: IndexMap<Path, Table>,
+    by_path: IndexMap<Path, Table>,
 }
 
 impl Model for Tables {
@@ -47,9 +47,9 @@ impl Model for Tables {
 
     ghost Value = { List Table };
 
-    ghost view = { λ t. values_of t.blocks.entries };
+    ghost view = { λ t. values_of t.by_path.entries };
 
-    ghost invariant = { λ t. IsKept t.blocks.entries };
+    ghost invariant = { λ t. IsKept t.by_path.entries };
 }
 
 impl Tables {
@@ -58,7 +58,7 @@ impl Tables {
         ensures { result ≡ [] }
     {
         Tables {
-            blocks: IndexMap::new(alloc),
+            by_path: IndexMap::new(alloc),
         }
     }
 
@@ -71,7 +71,7 @@ impl Tables {
         ensures err { OnErr result (self.new ≡ self.old) }
     {
         let path = table.path.copy()?;
-        self.blocks.insert(path, table)?;
+        self.by_path.insert(path, table)?;
         Ok(())
     }
 
@@ -86,19 +86,19 @@ impl Tables {
     pub(crate) fn at(&self, steps: &[PathStep]) -> Option<&Table>
         ensures { option_copied result ≡ table_at self.now steps.now }
     {
-        self.blocks.get(Steps { steps })
+        self.by_path.get(Steps { steps })
     }
 
     /// Every identity and every path that the tables hold stands by them. It does nothing: it only says so.
     pub fn stand(&self)
         ensures { Closed self.now }
     {
-        let _ = &self.blocks;
+        let _ = &self.by_path;
     }
     /// The tables, in the order in which they were added.
     pub fn as_slice(&self) -> &[Table]
         ensures { result.now ≡ self.now }
     {
-        self.blocks.values().as_slice()
+        self.by_path.values().as_slice()
     }
 }

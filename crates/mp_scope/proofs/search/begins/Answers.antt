@@ -1,4 +1,4 @@
-use Rattle.std.proofs.Common.{◌≡◌, ◌∙◌, refl}
+use Rattle.std.proofs.Common.{◌∙◌, refl}
 use Rattle.mp_base.specs.contracts.path.PathStepPartialEq.TheImpl as step
 use Rattle.mp_scope.proofs.NestedLemmas.{begins-starts_with}
 use Rattle.mp_scope.proofs.search.begins.Goals as goal

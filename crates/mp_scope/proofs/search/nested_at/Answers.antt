@@ -1,4 +1,4 @@
-use Rattle.std.proofs.Common.{◌≡◌, ◌∙◌, sym}
+use Rattle.std.proofs.Common.{◌∙◌, sym}
 use Rattle.mp_scope.proofs.NestedLemmas.{nested_at-around}
 use Rattle.mp_scope.proofs.search.nested_at.Goals as goal
 
