@@ -1,0 +1,5 @@
+pub mod Kept
+pub mod Lent
+pub mod Gives
+pub mod Laws
+pub mod GivesTest
