@@ -24,7 +24,7 @@ use Rattle.mp_ast.specs.Leaves.{Leaf, Name, Forward, leaves_of_constant, leaves_
 use Rattle.mp_ast.specs.LeavesOfBlocks.{semicolon_leaf, leaves_of_program, leaves_of_labels, leaves_of_constant_definitions, leaves_of_type_definitions}
 use Rattle.mp_ast.specs.LeavesOfBlocks.{leaves_of_sections, leaves_of_declarations, leaves_of_statement_part, leaves_of_block}
 use Rattle.mp_ast.proofs.PlainTreeLemmas.{plain_tree-roll}
-use Rattle.mp_ast.proofs.LeavesTold.{is_name, Told, Tells, Reads, reads, still, onward, done, next, last, ends, closed, either, repeated, row, silent, mark}
+use Rattle.mp_ast.proofs.LeavesTold.{is_name, Told, Tells, ToldBetween, told_between, still, onward, done, next, last, ends, closed, either, repeated, row, silent, mark}
 use Rattle.mp_ast.proofs.LeavesTold.{opens, forward_tells, identifier_tells, number_tells, constant_tells, names_tell}
 use Rattle.mp_ast.proofs.LeavesOfStatements.{sequence_behind_tells}
 use Rattle.mp_ast.proofs.LeavesOfTypes.{denoter_leaves, section_leaves, sections_leaves, one_section, section_tells, denoter_tells}
@@ -93,31 +93,31 @@ parameters_tell limits = part_tells leaves_of_names refl (next (silent refl) (λ
 
 -- ---- single tokens
 
-semicolon_reads : (i : Input) (at : ℕ) (j : Input) → token (kind.Symbol s.Semicolon) i at j → Reads i (semicolon_leaf at ∷ []) j
-semicolon_reads i at j h =
-    let c : Tells (token (kind.Symbol s.Semicolon)) (λ at. semicolon_leaf at ∷ []) = mark refl in reads c i at j h
+semicolon_told : (i : Input) (at : ℕ) (j : Input) → token (kind.Symbol s.Semicolon) i at j → ToldBetween i (semicolon_leaf at ∷ []) j
+semicolon_told i at j h =
+    let c : Tells (token (kind.Symbol s.Semicolon)) (λ at. semicolon_leaf at ∷ []) = mark refl in told_between c i at j h
 
-silent_reads : (k : TokenKind) → is_name k ≡ false → (i : Input) (at : ℕ) (j : Input) → token k i at j → Reads i [] j
-silent_reads k e i at j h = let c : Tells (token k) (λ at. []) = silent e in reads c i at j h
+silent_told : (k : TokenKind) → is_name k ≡ false → (i : Input) (at : ℕ) (j : Input) → token k i at j → ToldBetween i [] j
+silent_told k e i at j h = let c : Tells (token k) (λ at. []) = silent e in told_between c i at j h
 
 -- ---- declarations
 
 -- what follows a heading and its `;`
-abbrev BodyReads : Input → DeclaredBody → List Tree → Input → Type 0
-BodyReads i body.Block [] j = ⊥
-BodyReads i body.Block (t ∷ []) j = (k : Input) × NestedSpelled i (plain_tree t) k × Reads k [] j
-BodyReads i body.Block (t ∷ (u ∷ more)) j = ⊥
-BodyReads i (body.Forward at) [] j = Reads i (Forward at ∷ []) j
-BodyReads i (body.Forward at) (t ∷ more) j = ⊥
+abbrev BodyToldBetween : Input → DeclaredBody → List Tree → Input → Type 0
+BodyToldBetween i body.Block [] j = ⊥
+BodyToldBetween i body.Block (t ∷ []) j = (k : Input) × NestedSpelled i (plain_tree t) k × ToldBetween k [] j
+BodyToldBetween i body.Block (t ∷ (u ∷ more)) j = ⊥
+BodyToldBetween i (body.Forward at) [] j = ToldBetween i (Forward at ∷ []) j
+BodyToldBetween i (body.Forward at) (t ∷ more) j = ⊥
 
 abbrev heading_with_semicolon : HeadingTree → ℕ → List Leaf
 heading_with_semicolon heading semicolon = heading_leaves heading ++ semicolon_leaf semicolon ∷ []
 
 record DeclarationReads (i : Input) (d : Declared) (j : Input) : Type 0 where
   pub between : Input
-  pub heading : Reads i (heading_with_semicolon d.declaration.heading d.declaration.semicolon) between
+  pub heading : ToldBetween i (heading_with_semicolon d.declaration.heading d.declaration.semicolon) between
   pub at : between.at ≡ d.declaration.semicolon + 1
-  pub body : BodyReads between d.declaration.body d.block j
+  pub body : BodyToldBetween between d.declaration.body d.block j
 
 abbrev declarations_leaves : List Declared → List Leaf
 declarations_leaves ds = leaves_of_declarations (map plain_declaration (map (λ d. d.declaration) ds))
@@ -139,7 +139,7 @@ told_as {i} {j} {xs} {ys} {nested} {trees} e r = subst (λ l. Spread i l nested 
 
 one_spread :
     (heading : HeadingTree) (semicolon : ℕ) (b : DeclaredBody) (block : List Tree) (more : List Declared) (i m k j : Input) →
-    Reads i (heading_with_semicolon heading semicolon) m → m.at ≡ semicolon + 1 → BodyReads m b block k →
+    ToldBetween i (heading_with_semicolon heading semicolon) m → m.at ≡ semicolon + 1 → BodyToldBetween m b block k →
     ((earlier : List (List ℕ)) → AreSpread earlier k more j) → (earlier : List (List ℕ)) →
     AreSpread earlier i (record { declaration = record { heading = heading; semicolon = semicolon; body = b }; block = block } ∷ more) j
 one_spread heading semicolon body.Block [] more i m k j a e b rest earlier = elim b [ ]
@@ -191,12 +191,12 @@ record BlockReads (program : Option ProgramHeading) (i : Input) (b : Block × Li
   pub spread : Spread i (parts_leaves (plain_block b.0)) (nested_in (plain_block b.0)) (trees_of plain_tree b.1) j
 
 module _ (limits : Limits) (nested : Rule Tree) (spelled : (i : Input) (x : Tree) (j : Input) → nested i x j → NestedSpelled i (plain_tree x) j) where
-  body_to : (i k j : Input) (x y : DeclaredBody × List Tree) → x ≡ y → BodyReads i x.0 x.1 j → BodyReads i y.0 y.1 j
-  body_to i k j x y e b = subst (λ z. BodyReads i z.0 z.1 j) e b
+  body_to : (i k j : Input) (x y : DeclaredBody × List Tree) → x ≡ y → BodyToldBetween i x.0 x.1 j → BodyToldBetween i y.0 y.1 j
+  body_to i k j x y e b = subst (λ z. BodyToldBetween i z.0 z.1 j) e b
 
   declaration_reads :
       (i m : Input) (heading : HeadingTree) (semicolon : ℕ) (x : DeclaredBody × List Tree) (k j : Input) (d : Declared) →
-      Reads i (heading_leaves heading) m → Reads m (semicolon_leaf semicolon ∷ []) k → k.at ≡ semicolon + 1 → BodyReads k x.0 x.1 j →
+      ToldBetween i (heading_leaves heading) m → ToldBetween m (semicolon_leaf semicolon ∷ []) k → k.at ≡ semicolon + 1 → BodyToldBetween k x.0 x.1 j →
       record { declaration = record { heading = heading; semicolon = semicolon; body = x.0 }; block = x.1 } ≡ d → DeclarationReads i d j
   declaration_reads i m heading semicolon x k j d a s t b e =
       subst (λ d. DeclarationReads i d j) e
@@ -216,27 +216,27 @@ module _ (limits : Limits) (nested : Rule Tree) (spelled : (i : Input) (x : Tree
       let h4 = h3.3 in
       let h5 = h4.3 in
       let h6 = h5.3 in
-      let labels = reads labels_tell i h.0 h.1 h.2 in
-      let constants = reads constants_tell h.1 h1.0 h1.1 h1.2 in
-      let types = reads (types_tell limits.openers) h1.1 h2.0 h2.1 h2.2 in
-      let variables = reads (variables_tell limits.openers) h2.1 h3.0 h3.1 h3.2 in
+      let labels = told_between labels_tell i h.0 h.1 h.2 in
+      let constants = told_between constants_tell h.1 h1.0 h1.1 h1.2 in
+      let types = told_between (types_tell limits.openers) h1.1 h2.0 h2.1 h2.2 in
+      let variables = told_between (variables_tell limits.openers) h2.1 h3.0 h3.1 h3.2 in
       let declared = deeper_declarations_spread _ depth h4.2 (λ i d j h.
       let g = h.3.3.3 in
-      let heading = reads (heading_tells limits.openers) h.1 h.3.0 h.3.1 h.3.2 in
-      let from = subst (λ m. Reads m (heading_leaves h.3.0) h.3.1) {x = h.1} h.2.1 heading in
-      let semicolon = semicolon_reads h.3.1 h.3.3.0 h.3.3.1 h.3.3.2 in
+      let heading = told_between (heading_tells limits.openers) h.1 h.3.0 h.3.1 h.3.2 in
+      let from = subst (λ m. ToldBetween m (heading_leaves h.3.0) h.3.1) {x = h.1} h.2.1 heading in
+      let semicolon = semicolon_told h.3.1 h.3.3.0 h.3.3.1 h.3.3.2 in
       let next_at : h.3.3.1.at ≡ h.3.3.0 + 1 = h.3.3.2.2 ∙ ap (λ n. n + 1) h.3.3.2.1 in
-      let end = subst (Reads g.1 []) g.3.3.1 (silent_reads (kind.Symbol s.Semicolon) refl g.1 g.3.0 g.3.1 g.3.2) in
+      let end = subst (ToldBetween g.1 []) g.3.3.1 (silent_told (kind.Symbol s.Semicolon) refl g.1 g.3.0 g.3.1 g.3.2) in
       declaration_reads i h.3.1 h.3.0 h.3.3.0 g.0 h.3.3.1 j d
       (record { read = from.read; rest = from.rest; at = from.at; told = from.told }) semicolon next_at
       (⊎_elim
       (λ f. body_to h.3.3.1 g.1 j (body.Forward f.0, []) g.0 f.3.0
-      (onward h.3.3.1 f.1 j (Forward f.0 ∷ []) [] (reads forward_tells h.3.3.1 f.0 f.1 f.2) (subst (λ n. Reads n [] j) (sym f.3.1) end)))
+      (onward h.3.3.1 f.1 j (Forward f.0 ∷ []) [] (told_between forward_tells h.3.3.1 f.0 f.1 f.2) (subst (λ n. ToldBetween n [] j) (sym f.3.1) end)))
       (λ f. body_to h.3.3.1 g.1 j (body.Block, f.0 ∷ []) g.0 f.3.0
-      (f.1, spelled h.3.3.1 f.0 f.1 f.2, subst (λ n. Reads n [] j) (sym f.3.1) end))
+      (f.1, spelled h.3.3.1 f.0 f.1 f.2, subst (λ n. ToldBetween n [] j) (sym f.3.1) end))
       g.2)
       g.3.3.0) in
-      let statements = reads (statement_part_tells limits.openers) h4.1 h5.0 h5.1 h5.2 in
+      let statements = told_between (statement_part_tells limits.openers) h4.1 h5.0 h5.1 h5.2 in
       block_done program h6.3.0 (h6.2.1 ∙ h6.3.1)
       (record {
         named = refl;
@@ -287,21 +287,21 @@ program_spelled limits i x j from h =
     let h4 = h3.3 in
     let h5 = h4.3 in
     let h6 = h5.3 in
-    let word = silent_reads (kind.Word w.Program) refl i h.0 h.1 h.2 in
-    let name = reads identifier_tells h.1 h1.0 h1.1 h1.2 in
-    let parameters = reads (parameters_tell limits) h1.1 h2.0 h2.1 h2.2 in
-    let semicolon = silent_reads (kind.Symbol s.Semicolon) refl h2.1 h3.0 h3.1 h3.2 in
+    let word = silent_told (kind.Word w.Program) refl i h.0 h.1 h.2 in
+    let name = told_between identifier_tells h.1 h1.0 h1.1 h1.2 in
+    let parameters = told_between (parameters_tell limits) h1.1 h2.0 h2.1 h2.2 in
+    let semicolon = silent_told (kind.Symbol s.Semicolon) refl h2.1 h3.0 h3.1 h3.2 in
     let names = leaves_of_names h2.0 in
     let heading =
-    subst (λ l. Reads i (Name h1.0 ∷ l) h3.1) (append-nil names)
+    subst (λ l. ToldBetween i (Name h1.0 ∷ l) h3.1) (append-nil names)
     (onward i h.1 h3.1 [] (Name h1.0 ∷ (names ++ [])) word
     (onward h.1 h1.1 h3.1 (Name h1.0 ∷ []) (names ++ []) name (onward h1.1 h2.1 h3.1 names [] parameters semicolon))) in
     let block = block_with_reads limits (nested_block limits limits.depth) (nested_spelled limits limits.depth) _ limits.depth h3.1 h4.0 h4.1 h4.2 in
     let b = h4.0.0 in
     let end : h5.1 ≡ j = h6.2.1 ∙ h6.3.1 in
-    let dot = subst (Reads h4.1 []) end (silent_reads (kind.Symbol s.Dot) refl h4.1 h5.0 h5.1 h5.2) in
+    let dot = subst (ToldBetween h4.1 []) end (silent_told (kind.Symbol s.Dot) refl h4.1 h5.0 h5.1 h5.2) in
     let last : j.at ≡ h6.0 = sym (ap (λ k. k.at) end) ∙ h6.2.0 in
-    let headed = subst (λ p. Reads i (leaves_of_program p) h3.1) (sym block.named) heading in
+    let headed = subst (λ p. ToldBetween i (leaves_of_program p) h3.1) (sym block.named) heading in
     let parts = parts_leaves (plain_block b) in
     let front = spread_front i h3.1 h4.1 (leaves_of_program b.program) parts (nested_in (plain_block b)) (trees_of plain_tree h4.0.1) headed block.spread in
     let all = spread_behind i h4.1 j (leaves_of_program b.program ++ parts) [] (nested_in (plain_block b)) (trees_of plain_tree h4.0.1) front dot in

@@ -8,7 +8,7 @@ use Rattle.mp_ast.specs.PlainTrees.{PlainTree, PlainTrees, TreeOf, NoTrees, Besi
 use Rattle.mp_ast.specs.Blocks.{Nested, nested_in, tokens_of, tokens_of_all}
 use Rattle.mp_ast.specs.Leaves.{Leaf}
 use Rattle.mp_ast.specs.LeavesOfBlocks.{leaves_of_block}
-use Rattle.mp_ast.proofs.LeavesTold.{Told, told-append, Reads}
+use Rattle.mp_ast.proofs.LeavesTold.{Told, told-append, ToldBetween}
 
 abbrev mutual
   -- these are the tokens of a tree
@@ -94,12 +94,12 @@ pub record Spread (i : Input) (leaves : List Leaf) (nested : List Nested) (trees
   pub woven : Woven i.at own nested trees read
 
 -- what is read where no tree is nested
-pub plain_spread : (i j : Input) (xs : List Leaf) → Reads i xs j → Spread i xs [] NoTrees j
+pub plain_spread : (i j : Input) (xs : List Leaf) → ToldBetween i xs j → Spread i xs [] NoTrees j
 plain_spread i j xs a = record { own = a.read; read = a.read; rest = a.rest; at = a.at; told = a.told; woven = refl }
 
 pub spread_front :
     (i m j : Input) (xs ys : List Leaf) (nested : List Nested) (trees : PlainTrees) →
-    Reads i xs m → Spread m ys nested trees j → Spread i (xs ++ ys) nested trees j
+    ToldBetween i xs m → Spread m ys nested trees j → Spread i (xs ++ ys) nested trees j
 spread_front i m j xs ys nested trees a b =
     let both = length-append a.read b.own in
     record {
@@ -113,7 +113,7 @@ spread_front i m j xs ys nested trees a b =
 
 pub spread_behind :
     (i m j : Input) (xs ys : List Leaf) (nested : List Nested) (trees : PlainTrees) →
-    Spread i xs nested trees m → Reads m ys j → Spread i (xs ++ ys) nested trees j
+    Spread i xs nested trees m → ToldBetween m ys j → Spread i (xs ++ ys) nested trees j
 spread_behind i m j xs ys nested trees a b =
     let both = length-append a.own b.read in
     record {
@@ -135,7 +135,7 @@ pub record NestedSpelled (i : Input) (tree : PlainTree) (j : Input) : Type 0 whe
 -- a heading with its `;`, the nested block behind it, and what follows
 pub spread_nested :
     (i m k j : Input) (xs ys : List Leaf) (n : Nested) (tree : PlainTree) (nested : List Nested) (trees : PlainTrees) →
-    Reads i xs m → m.at ≡ n.semicolon + 1 → NestedSpelled m tree k → Spread k ys nested trees j →
+    ToldBetween i xs m → m.at ≡ n.semicolon + 1 → NestedSpelled m tree k → Spread k ys nested trees j →
     Spread i (xs ++ ys) (n ∷ nested) (Beside tree trees) j
 spread_nested i m k j xs ys n tree nested trees a e t b =
     let both = length-append a.read b.own in

@@ -47,16 +47,16 @@ told-append ls ys at (k ∷ ks) xs (untold l ms leaves plain more) t =
 -- ---- places
 
 -- what is read from one place to another, and the leaves that tell of it
-pub record Reads (i : Input) (leaves : List Leaf) (j : Input) : Type 0 where
+pub record ToldBetween (i : Input) (leaves : List Leaf) (j : Input) : Type 0 where
   pub read : List TokenKind
   pub rest : i.rest ≡ read ++ j.rest
   pub at : j.at ≡ i.at + length read
   pub told : Told i.at read leaves
 
-pub still : (i : Input) → Reads i [] i
+pub still : (i : Input) → ToldBetween i [] i
 still i = record { read = []; rest = refl; at = omega arith; told = finished }
 
-pub onward : (i m j : Input) (xs ys : List Leaf) → Reads i xs m → Reads m ys j → Reads i (xs ++ ys) j
+pub onward : (i m j : Input) (xs ys : List Leaf) → ToldBetween i xs m → ToldBetween m ys j → ToldBetween i (xs ++ ys) j
 onward i m j xs ys a b =
     let both = length-append a.read b.read in
     record {
@@ -71,21 +71,21 @@ onward i m j xs ys a b =
 -- With these leaves before, what a rule reads is told by these leaves of what it makes.
 pub record TellsFrom {A : Type 0} (before : List Leaf → List Leaf) (r : Rule A) (f : A → List Leaf) : Type 0 where
   pub tells :
-      (i m : Input) (x : A) (j : Input) → ((leaves : List Leaf) (k : Input) → Reads m leaves k → Reads i (before leaves) k) → r m x j → Reads i (f x) j
+      (i m : Input) (x : A) (j : Input) → ((leaves : List Leaf) (k : Input) → ToldBetween m leaves k → ToldBetween i (before leaves) k) → r m x j → ToldBetween i (f x) j
 
 abbrev pub Tells : {A : Type 0} → Rule A → (A → List Leaf) → Type 0
 Tells r f = TellsFrom (λ leaves. leaves) r f
 
-pub reads : {A : Type 0} {r : Rule A} {f : A → List Leaf} → Tells r f → (i : Input) (x : A) (j : Input) → r i x j → Reads i (f x) j
-reads c i x j h = c.tells i i x j (λ leaves k d. d) h
+pub told_between : {A : Type 0} {r : Rule A} {f : A → List Leaf} → Tells r f → (i : Input) (x : A) (j : Input) → r i x j → ToldBetween i (f x) j
+told_between c i x j h = c.tells i i x j (λ leaves k d. d) h
 
-pub plainly : {A : Type 0} {r : Rule A} {f : A → List Leaf} → ((i : Input) (x : A) (j : Input) → r i x j → Reads i (f x) j) → Tells r f
+pub plainly : {A : Type 0} {r : Rule A} {f : A → List Leaf} → ((i : Input) (x : A) (j : Input) → r i x j → ToldBetween i (f x) j) → Tells r f
 plainly c = record { tells = λ i m x j reach h. reach _ j (c m x j h) }
 
 pub done : {A : Type 0} {before : List Leaf → List Leaf} {f : A → List Leaf} {x : A} → before [] ≡ f x → TellsFrom before (gives x) f
 done {before = before} {f} {x} e = record {
   tells = λ i m y j reach h.
-      subst (λ k. Reads i (f y) k) h.1 (subst (λ leaves. Reads i leaves m) (e ∙ ap f h.0) (reach [] m (still m)));
+      subst (λ k. ToldBetween i (f y) k) h.1 (subst (λ leaves. ToldBetween i leaves m) (e ∙ ap f h.0) (reach [] m (still m)));
 }
 
 pub never : {A : Type 0} {before : List Leaf → List Leaf} {f : A → List Leaf} → TellsFrom before (none {A = A}) f
@@ -96,14 +96,14 @@ pub next :
     Tells r g → ((x : A) → TellsFrom (λ leaves. before (g x ++ leaves)) (s x) f) → TellsFrom before (r >>= s) f
 next {g = g} c d = record {
   tells = λ i m y j reach h.
-      (d h.0).tells i h.1 y j (λ leaves k q. reach (g h.0 ++ leaves) k (onward m h.1 k (g h.0) leaves (reads c m h.0 h.1 h.2) q)) h.3;
+      (d h.0).tells i h.1 y j (λ leaves k q. reach (g h.0 ++ leaves) k (onward m h.1 k (g h.0) leaves (told_between c m h.0 h.1 h.2) q)) h.3;
 }
 
 pub last :
     {A : Type 0} {before : List Leaf → List Leaf} {r : Rule A} {g f : A → List Leaf} →
     Tells r g → ((x : A) → before (g x) ≡ f x) → TellsFrom before r f
 last {g = g} c e = record {
-  tells = λ i m y j reach h. subst (λ leaves. Reads i leaves j) (e y) (reach (g y) j (reads c m y j h));
+  tells = λ i m y j reach h. subst (λ leaves. ToldBetween i leaves j) (e y) (reach (g y) j (told_between c m y j h));
 }
 
 pub ends :
@@ -123,8 +123,8 @@ pub either :
 either {before = before} {r} {s} {f} a b = record { tells = go }
   where
     go :
-        (i m : Input) (x : _) (j : Input) → ((leaves : List Leaf) (k : Input) → Reads m leaves k → Reads i (before leaves) k) →
-        r m x j ⊎ s m x j → Reads i (f x) j
+        (i m : Input) (x : _) (j : Input) → ((leaves : List Leaf) (k : Input) → ToldBetween m leaves k → ToldBetween i (before leaves) k) →
+        r m x j ⊎ s m x j → ToldBetween i (f x) j
     go i m x j reach (inl h) = a.tells i m x j reach h
     go i m x j reach (inr h) = b.tells i m x j reach h
 
@@ -135,18 +135,18 @@ maybe_leaves g (Some x) = g x
 pub maybe : {A : Type 0} {r : Rule A} {g : A → List Leaf} → Tells r g → Tells (optional r) (maybe_leaves g)
 maybe c = either (ends c (λ x. refl)) (done refl)
 
-many_reads :
+many_told :
     {A : Type 0} {r : Rule A} {g : A → List Leaf} (h : List A → List Leaf) → h [] ≡ [] → ((x : A) (xs : List A) → g x ++ h xs ≡ h (x ∷ xs)) →
-    Tells r g → (i j : Input) (xs : List A) → Many r j xs i → Reads i (h xs) j
-many_reads h start more c i j [] no_more = subst (λ leaves. Reads j leaves j) (sym start) (still j)
-many_reads {g = g} h start more c i j (x ∷ xs) (one_more y ys k m one t) =
-    subst (λ leaves. Reads i leaves j) (more x xs)
-    (onward i m j (g x) (h xs) (reads c i x m one) (many_reads h start more c m j xs t))
+    Tells r g → (i j : Input) (xs : List A) → Many r j xs i → ToldBetween i (h xs) j
+many_told h start more c i j [] no_more = subst (λ leaves. ToldBetween j leaves j) (sym start) (still j)
+many_told {g = g} h start more c i j (x ∷ xs) (one_more y ys k m one t) =
+    subst (λ leaves. ToldBetween i leaves j) (more x xs)
+    (onward i m j (g x) (h xs) (told_between c i x m one) (many_told h start more c m j xs t))
 
 pub repeated :
     {A : Type 0} {r : Rule A} {g : A → List Leaf} (h : List A → List Leaf) → h [] ≡ [] → ((x : A) (xs : List A) → g x ++ h xs ≡ h (x ∷ xs)) →
     Tells r g → Tells (many r) h
-repeated h start more c = plainly (λ i xs j t. many_reads h start more c i j xs t)
+repeated h start more c = plainly (λ i xs j t. many_told h start more c i j xs t)
 
 pub repeated_lists :
     {A : Type 0} {r : Rule (List A)} (h : List A → List Leaf) → h [] ≡ [] → ((xs ys : List A) → h xs ++ h ys ≡ h (xs ++ ys)) →
@@ -163,17 +163,17 @@ row h start more s c =
 
 -- ---- tokens
 
-one_read : {k : TokenKind} (i : Input) (at : ℕ) (j : Input) (leaves : List Leaf) → Told i.at (k ∷ []) leaves → token k i at j → Reads i leaves j
-one_read {k} i at j leaves t h = record { read = k ∷ []; rest = h.0; at = omega (arith, h.2); told = t }
+one_told : {k : TokenKind} (i : Input) (at : ℕ) (j : Input) (leaves : List Leaf) → Told i.at (k ∷ []) leaves → token k i at j → ToldBetween i leaves j
+one_told {k} i at j leaves t h = record { read = k ∷ []; rest = h.0; at = omega (arith, h.2); told = t }
 
 pub silent : {k : TokenKind} → is_name k ≡ false → Tells (token k) (λ at. [])
-silent {k} e = plainly (λ i at j h. one_read i at j [] (untold k [] [] e finished) h)
+silent {k} e = plainly (λ i at j h. one_told i at j [] (untold k [] [] e finished) h)
 
 pub leaf_told :
     {k : TokenKind} (leaf : ℕ → Leaf) → ((at : ℕ) → has_token (leaf at) ≡ true) → ((at : ℕ) → ordinal_of (leaf at) ≡ at) →
     ((at : ℕ) → is_name k ≡ is_identifier_token (leaf at)) → ((at : ℕ) → Fits (leaf at) k) → Tells (token k) (λ at. leaf at ∷ [])
 leaf_told {k} leaf own here named fits =
-    plainly (λ i at j h. one_read i at j (leaf at ∷ []) (told k [] (leaf at) [] (own at) (here at ∙ sym h.1) (named at) (fits at) finished) h)
+    plainly (λ i at j h. one_told i at j (leaf at ∷ []) (told k [] (leaf at) [] (own at) (here at ∙ sym h.1) (named at) (fits at) finished) h)
 
 pub mark : {k : TokenKind} → is_name k ≡ false → Tells (token k) (λ at. Mark at k ∷ [])
 mark {k} e = leaf_told (λ at. Mark at k) (λ at. refl) (λ at. refl) (λ at. e) (λ at. refl)
@@ -205,19 +205,19 @@ maybe_silent e = either (ends (silent e) (λ at. refl)) (done refl)
 pub here_tells : Tells here (λ at. Before at ∷ [])
 here_tells =
     plainly (λ i at j h.
-    subst (λ k. Reads i (Before at ∷ []) k) h.1
+    subst (λ k. ToldBetween i (Before at ∷ []) k) h.1
     (record { read = []; rest = refl; at = omega arith; told = placed [] (Before at) [] refl (sym h.0) finished }))
 
 pub unless_tells : {k : TokenKind} → Tells (not_before k) (λ x. [])
-unless_tells = plainly (λ i x j h. subst (λ k. Reads i [] k) h.1 (still i))
+unless_tells = plainly (λ i x j h. subst (λ k. ToldBetween i [] k) h.1 (still i))
 
 -- ---- where it matters which ordinal comes next
 
 -- the same from a place with the ordinal `n`
 pub record TellsAt {A : Type 0} (n : ℕ) (before : List Leaf → List Leaf) (r : Rule A) (f : A → List Leaf) : Type 0 where
   pub tells :
-      (i m : Input) (x : A) (j : Input) → m.at ≡ n → ((leaves : List Leaf) (k : Input) → Reads m leaves k → Reads i (before leaves) k) →
-      r m x j → Reads i (f x) j
+      (i m : Input) (x : A) (j : Input) → m.at ≡ n → ((leaves : List Leaf) (k : Input) → ToldBetween m leaves k → ToldBetween i (before leaves) k) →
+      r m x j → ToldBetween i (f x) j
 
 pub anywhere : {A : Type 0} {n : ℕ} {before : List Leaf → List Leaf} {r : Rule A} {f : A → List Leaf} → TellsFrom before r f → TellsAt n before r f
 anywhere c = record { tells = λ i m x j e reach h. c.tells i m x j reach h }
@@ -228,8 +228,8 @@ pub either_at :
 either_at {n = n} {before} {r} {s} {f} a b = record { tells = go }
   where
     go :
-        (i m : Input) (x : _) (j : Input) → m.at ≡ n → ((leaves : List Leaf) (k : Input) → Reads m leaves k → Reads i (before leaves) k) →
-        r m x j ⊎ s m x j → Reads i (f x) j
+        (i m : Input) (x : _) (j : Input) → m.at ≡ n → ((leaves : List Leaf) (k : Input) → ToldBetween m leaves k → ToldBetween i (before leaves) k) →
+        r m x j ⊎ s m x j → ToldBetween i (f x) j
     go i m x j e reach (inl h) = a.tells i m x j e reach h
     go i m x j e reach (inr h) = b.tells i m x j e reach h
 
@@ -241,7 +241,7 @@ marked_next {k = k} plain d = record {
   tells = λ i m y j reach h.
       let e : h.1.at ≡ h.0 + 1 = omega (arith, h.2.1, h.2.2) in
       (d h.0).tells i h.1 y j e
-      (λ leaves n q. reach (Mark h.0 k ∷ leaves) n (onward m h.1 n (Mark h.0 k ∷ []) leaves (reads (mark plain) m h.0 h.1 h.2) q)) h.3;
+      (λ leaves n q. reach (Mark h.0 k ∷ leaves) n (onward m h.1 n (Mark h.0 k ∷ []) leaves (told_between (mark plain) m h.0 h.1 h.2) q)) h.3;
 }
 
 pub marked_at :
@@ -250,19 +250,19 @@ pub marked_at :
 marked_at {k = k} plain d = record {
   tells = λ i m y j e reach h.
       (d h.0 (sym h.2.1 ∙ e)).tells i h.1 y j
-      (λ leaves n q. reach (Mark h.0 k ∷ leaves) n (onward m h.1 n (Mark h.0 k ∷ []) leaves (reads (mark plain) m h.0 h.1 h.2) q)) h.3;
+      (λ leaves n q. reach (Mark h.0 k ∷ leaves) n (onward m h.1 n (Mark h.0 k ∷ []) leaves (told_between (mark plain) m h.0 h.1 h.2) q)) h.3;
 }
 
 -- ---- leaves
 
 pub identifier_tells : Tells identifier (λ x. Name x ∷ [])
-identifier_tells = plainly (λ i x j h. one_read i x.at j (Name x ∷ []) (told (kind.Id x.name) [] (Name x) [] refl (sym h.1) refl refl finished) h)
+identifier_tells = plainly (λ i x j h. one_told i x.at j (Name x ∷ []) (told (kind.Id x.name) [] (Name x) [] refl (sym h.1) refl refl finished) h)
 
 pub number_tells : Tells number (λ x. number_leaf x ∷ [])
-number_tells = plainly (λ i x j h. one_read i x.at j (number_leaf x ∷ []) (told (kind.Number x.value) [] (number_leaf x) [] refl (sym h.1) refl refl finished) h)
+number_tells = plainly (λ i x j h. one_told i x.at j (number_leaf x ∷ []) (told (kind.Number x.value) [] (number_leaf x) [] refl (sym h.1) refl refl finished) h)
 
 pub string_tells : Tells character_string (λ x. string_leaf x ∷ [])
-string_tells = plainly (λ i x j h. one_read i x.at j (string_leaf x ∷ []) (told (kind.Text x.characters) [] (string_leaf x) [] refl (sym h.1) refl refl finished) h)
+string_tells = plainly (λ i x j h. one_told i x.at j (string_leaf x ∷ []) (told (kind.Text x.characters) [] (string_leaf x) [] refl (sym h.1) refl refl finished) h)
 
 pub sign_tells : Tells (optional sign) leaves_of_sign
 sign_tells =

@@ -40,8 +40,8 @@ use Rattle.mp_ast.specs.Programs.{start_of, standard, Derives}
 use Rattle.mp_ast.specs.FirstError.{IsFirstError}
 
 -- the rule relates the tokens, all of them, to the tree
-abbrev pub Reads : {A : Type 0} → Rule A → List TokenKind → A → Type 0
-Reads rule kinds tree = (j : Input) × rule (start_of kinds) tree j × (j.rest ≡ [])
+abbrev pub DerivesBy : {A : Type 0} → Rule A → List TokenKind → A → Type 0
+DerivesBy rule kinds tree = (j : Input) × rule (start_of kinds) tree j × (j.rest ≡ [])
 
 -- ---- tokens, as the lists below write them
 
@@ -178,7 +178,7 @@ expression_tree = expressions.Relation (expressions.Sum (Some (record { at = 0; 
 
 -- where one more opener may stand open
 abbrev pub ExpressionExample : Type 0
-ExpressionExample = (room : ℕ) → Reads (expression (suc room)) expression_tokens expression_tree
+ExpressionExample = (room : ℕ) → DerivesBy (expression (suc room)) expression_tokens expression_tree
 
 -- ---- statements
 
@@ -213,10 +213,10 @@ case_tree = statements.Labelled (digits 0 9) (statements.Case 2 (variable 3 i) (
 
 -- where one or two more openers may stand open
 abbrev pub ElseExample : Type 0
-ElseExample = (room : ℕ) → Reads (statement (suc (suc room))) else_tokens else_tree
+ElseExample = (room : ℕ) → DerivesBy (statement (suc (suc room))) else_tokens else_tree
 
 abbrev pub CaseExample : Type 0
-CaseExample = (room : ℕ) → Reads (statement (suc room)) case_tokens case_tree
+CaseExample = (room : ℕ) → DerivesBy (statement (suc room)) case_tokens case_tree
 
 -- no `if` without an `else` is followed by one
 abbrev pub NoElseFollows : Type 0
@@ -265,7 +265,7 @@ type_tree = denoters.Record 0 true (denoters.Fields (fixed_part ∷ []) (Some va
 
 -- where two more openers may stand open: `packed`, and in it `array` and `case`
 abbrev pub TypeExample : Type 0
-TypeExample = (room : ℕ) → Reads (denoter (suc (suc room))) type_tokens type_tree
+TypeExample = (room : ℕ) → DerivesBy (denoter (suc (suc room))) type_tokens type_tree
 
 -- where no opener more may stand open, `packed` begins no type
 abbrev pub NoRoomForPacked : Type 0
@@ -294,7 +294,7 @@ heading_tree = record {
 
 -- where two more openers may stand open
 abbrev pub HeadingExample : Type 0
-HeadingExample = (room : ℕ) → Reads (heading (suc (suc room))) heading_tokens heading_tree
+HeadingExample = (room : ℕ) → DerivesBy (heading (suc (suc room))) heading_tokens heading_tree
 
 -- ---- programs
 

@@ -28,7 +28,7 @@ use Rattle.mp_ast.specs.StatementGrammar.{statement}
 use Rattle.mp_ast.specs.TypeGrammar.{denoter}
 use Rattle.mp_ast.specs.HeadingGrammar.{heading}
 use Rattle.mp_ast.specs.Programs.{Derives}
-use Rattle.mp_ast.specs.Examples.{Reads, a, b, c, f, i, n, p, q, plus, minus, equal, left_bracket, right_bracket, left_paren, right_paren, dot, dots, comma, colon, assign, semicolon, named, digits, variable, constant, call, type_named}
+use Rattle.mp_ast.specs.Examples.{DerivesBy, a, b, c, f, i, n, p, q, plus, minus, equal, left_bracket, right_bracket, left_paren, right_paren, dot, dots, comma, colon, assign, semicolon, named, digits, variable, constant, call, type_named}
 
 -- ---- operators: `a`, the operator, `b`
 
@@ -36,18 +36,18 @@ abbrev before_b : Operator → Operation Expr
 before_b o = record { at = 1; operator = o; operand = variable 2 b }
 
 abbrev pub Relates : TokenKind → Operator → Type 0
-Relates k o = (room : ℕ) → Reads (expression room) (Id a ∷ k ∷ Id b ∷ []) (expressions.Relation (variable 0 a) (before_b o))
+Relates k o = (room : ℕ) → DerivesBy (expression room) (Id a ∷ k ∷ Id b ∷ []) (expressions.Relation (variable 0 a) (before_b o))
 
 abbrev pub Adds : TokenKind → Operator → Type 0
-Adds k o = (room : ℕ) → Reads (expression room) (Id a ∷ k ∷ Id b ∷ []) (expressions.Sum None (variable 0 a) (before_b o ∷ []))
+Adds k o = (room : ℕ) → DerivesBy (expression room) (Id a ∷ k ∷ Id b ∷ []) (expressions.Sum None (variable 0 a) (before_b o ∷ []))
 
 abbrev pub Multiplies : TokenKind → Operator → Type 0
-Multiplies k o = (room : ℕ) → Reads (expression room) (Id a ∷ k ∷ Id b ∷ []) (expressions.Product (variable 0 a) (before_b o ∷ []))
+Multiplies k o = (room : ℕ) → DerivesBy (expression room) (Id a ∷ k ∷ Id b ∷ []) (expressions.Product (variable 0 a) (before_b o ∷ []))
 
 -- ---- expressions, where one more opener may stand open
 
 abbrev IsExpression : List TokenKind → Expr → Type 0
-IsExpression kinds tree = (room : ℕ) → Reads (expression (suc room)) kinds tree
+IsExpression kinds tree = (room : ℕ) → DerivesBy (expression (suc room)) kinds tree
 
 -- 'a'
 abbrev pub StringExample : Type 0
@@ -83,7 +83,7 @@ FunctionExample = IsExpression (Id f ∷ actual_tokens) (expressions.Call (named
 -- ---- statements, where one more opener may stand open
 
 abbrev IsStatement : List TokenKind → Statement → Type 0
-IsStatement kinds tree = (room : ℕ) → Reads (statement (suc room)) kinds tree
+IsStatement kinds tree = (room : ℕ) → DerivesBy (statement (suc room)) kinds tree
 
 -- p(a, b: c)
 abbrev pub ProcedureExample : Type 0
@@ -130,7 +130,7 @@ WithExample =
 -- ---- types, where two more openers may stand open
 
 abbrev IsType : List TokenKind → Denoter → Type 0
-IsType kinds tree = (room : ℕ) → Reads (denoter (suc (suc room))) kinds tree
+IsType kinds tree = (room : ℕ) → DerivesBy (denoter (suc (suc room))) kinds tree
 
 -- (a, b)
 abbrev pub EnumerationExample : Type 0
@@ -179,7 +179,7 @@ NoTagExample =
 -- ---- headings, where one more opener may stand open
 
 abbrev IsHeading : List TokenKind → HeadingTree → Type 0
-IsHeading kinds tree = (room : ℕ) → Reads (heading (suc room)) kinds tree
+IsHeading kinds tree = (room : ℕ) → DerivesBy (heading (suc room)) kinds tree
 
 -- procedure p(procedure q)
 abbrev pub ProceduralExample : Type 0
