@@ -1,6 +1,6 @@
 -- The program's block has the program's heading, and no block in it has one. By induction over how deep blocks stand in one
 -- another.
-use Rattle.std.proofs.Common.{◌≡◌, ℕ, zero, suc, ◌+◌, List, [], ◌∷◌, ◌++◌, map, Option, Some, None, refl, sym, subst}
+use Rattle.std.proofs.Common.{◌≡◌, ℕ, zero, suc, ◌+◌, List, [], ◌∷◌, ◌++◌, map, Option, None, refl, sym, subst}
 use Rattle.std.specs.List.{AllByRecursion}
 use Rattle.mp_base.specs.declared.path.PathStep.{PathStep}
 use Rattle.mp_ast.specs.declared.tokens.TokenKind.{TokenKind}
@@ -10,7 +10,7 @@ use Rattle.mp_ast.specs.declared.blocks.Tree.{Tree, roll-Tree}
 use Rattle.mp_ast.specs.Rules.{Rule, joined}
 use Rattle.mp_ast.specs.BlockGrammar.{Limits, Declared, declaration, block_with, nested_block, program}
 use Rattle.mp_ast.specs.Programs.{Derives, start_of}
-use Rattle.mp_ast.specs.PlainTrees.{PlainTree, PlainTrees, TreeOf, NoTrees, Beside, plain_block, trees_of, plain_tree}
+use Rattle.mp_ast.specs.PlainTrees.{PlainTree, PlainTrees, TreeOf, NoTrees, Beside, trees_of, plain_tree}
 use Rattle.mp_ast.specs.Blocks.{Nested, nested_in, tokens_of, PlacedBlock, blocks_from, blocks_inside, blocks}
 use Rattle.mp_ast.specs.WellFormed.{FitsItsPath}
 use Rattle.mp_ast.proofs.PlainTreeLemmas.{plain_tree-roll}

@@ -1,6 +1,6 @@
 -- A program's tokens are those of its tree: what the rules of blocks read is told by the leaves of the block's own tree,
 -- but for what stands in nested trees.
-use Rattle.std.proofs.Common.{◌≡◌, ℕ, zero, suc, ◌+◌, ◌⊎◌, ⊎_elim, false, List, [], ◌∷◌, ◌++◌, map, filter, Option, None, length, refl, sym, ap, ◌∙◌, subst, append_assoc, arith}
+use Rattle.std.proofs.Common.{◌≡◌, ℕ, zero, suc, ◌+◌, ⊎_elim, false, List, [], ◌∷◌, ◌++◌, map, filter, Option, None, length, refl, sym, ap, ◌∙◌, subst, append_assoc, arith}
 use Rattle.std.proofs.lemmas.List.{append-nil}
 use Rattle.mp_ast.specs.declared.tokens.TokenKind.{TokenKind}
 use Rattle.mp_ast.specs.declared.tokens.TokenKind.TheVariants as kind

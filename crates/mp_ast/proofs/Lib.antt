@@ -19,6 +19,7 @@ pub mod CountingBlocks
 pub mod FirstTokenLemmas
 pub mod Yielding
 pub mod WellFormedExpressions
+pub mod DanglingElse
 pub mod WellFormedStatements
 pub mod WellFormedTypes
 pub mod WellFormedHeadings

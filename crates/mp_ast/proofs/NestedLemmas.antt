@@ -5,9 +5,9 @@ use Rattle.mp_base.specs.declared.limits.TheConstants.{TEXT_LIMIT}
 use Rattle.mp_ast.specs.declared.blocks.Block.{Block}
 use Rattle.mp_ast.specs.declared.blocks.Declaration.{Declaration}
 use Rattle.mp_ast.specs.declared.blocks.Tree.{Tree}
-use Rattle.mp_ast.specs.PlainTrees.{PlainDeclaration, plain_declaration, plain_block, trees_of, plain_tree}
-use Rattle.mp_ast.specs.Blocks.{Nested, nested_after, nested_in, is_block, tokens_of, tokens_of_all}
-use Rattle.mp_ast.specs.WholeTrees.{IsWhole, AreWhole}
+use Rattle.mp_ast.specs.PlainTrees.{PlainDeclaration, plain_declaration, trees_of, plain_tree}
+use Rattle.mp_ast.specs.Blocks.{Nested, nested_after, is_block, tokens_of, tokens_of_all}
+use Rattle.mp_ast.specs.WholeTrees.{AreWhole}
 use Rattle.mp_ast.specs.SharedTrees.{IsOfAProgram, own_of, inside_of}
 use Rattle.mp_ast.specs.Descent.{nested_of}
 use Rattle.mp_ast.proofs.BlockLemmas.{low_within}

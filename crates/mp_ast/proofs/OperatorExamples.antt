@@ -1,12 +1,11 @@
 -- The derivations of `a`, an operator, `b`: that of the operator stands among the alternatives of its kind.
-use Rattle.std.proofs.Common.{◌≡◌, ◌⊎◌, ℕ, ◌+◌, List, [], ◌∷◌, inl, refl}
+use Rattle.std.proofs.Common.{ℕ, ◌+◌, List, ◌∷◌, inl, refl}
 use Rattle.mp_ast.specs.declared.tokens.TokenKind.{TokenKind}
-use Rattle.mp_ast.specs.declared.tokens.TokenKind.TheVariants.{Id}
 use Rattle.mp_ast.specs.declared.expressions.Operator.{Operator}
 use Rattle.mp_ast.specs.Rules.{Rule, no_more}
 use Rattle.mp_ast.specs.ExpressionGrammar.{relational_operator, adding_operator, multiplying_operator}
 use Rattle.mp_ast.specs.ProductionExamples.{Relates, Adds, Multiplies}
-use Rattle.mp_ast.proofs.ExampleLemmas.{seq, ◌⊳◌, took, nothing, past_1, past_3, name_access}
+use Rattle.mp_ast.proofs.ExampleLemmas.{seq, ◌⊳◌, nothing, past_1, past_3, name_access}
 
 -- the token is the operator
 abbrev IsOperator : Rule (ℕ × Operator) → TokenKind → Operator → Type 0

@@ -1,10 +1,9 @@
 -- The derivations of the short examples, each by its parts from the left.
-use Rattle.std.proofs.Common.{ℕ, suc, inl, refl}
+use Rattle.std.proofs.Common.{suc, inl, refl}
 use Rattle.mp_ast.specs.Rules.{no_more}
 use Rattle.mp_ast.specs.ExpressionGrammar.{behind as expressions_behind}
 use Rattle.mp_ast.specs.StatementGrammar.{behind as statements_behind}
 use Rattle.mp_ast.specs.TypeGrammar.{behind as types_behind}
-use Rattle.mp_ast.specs.HeadingGrammar.{formals_behind}
 use Rattle.mp_ast.specs.ProductionExamples.{StringExample, NilExample, SignExample, NotExample, EmptySetExample, FunctionExample, ProcedureExample, GotoExample}
 use Rattle.mp_ast.specs.ProductionExamples.{CompoundExample, WhileExample, RepeatExample, ToExample, DowntoExample, WithExample, EnumerationExample}
 use Rattle.mp_ast.specs.ProductionExamples.{SignedSubrangeExample, SetExample, PackedSetExample, FileExample, PackedFileExample, PackedArrayExample}

@@ -1,6 +1,6 @@
 -- The way down to a block, the index of an own token, and the list of blocks, as far as a walk over the nested blocks of a
 -- block has come, and one turn on.
-use Rattle.std.proofs.Common.{◌≡◌, ℕ, ◌+◌, ◌≤◌, ◌<◌, List, [], ◌∷◌, ◌++◌, map, count_by, nat_lt, length, Option, Some, None, refl, sym, ap, ◌∙◌, subst, append_assoc, arith}
+use Rattle.std.proofs.Common.{◌≡◌, ℕ, ◌+◌, ◌≤◌, ◌<◌, List, [], ◌∷◌, ◌++◌, map, count_by, nat_lt, Option, Some, None, refl, sym, ap, ◌∙◌, subst, append_assoc, arith}
 use Rattle.std.specs.Prelude.{bytes_eq, option_and_then}
 use Rattle.std.proofs.lemmas.Bool.{cond-true, cond-false, lt-ltb, le-ltb}
 use Rattle.std.proofs.lemmas.List.{append-nil, map-append}
@@ -9,7 +9,7 @@ use Rattle.mp_base.specs.declared.path.PathStep.{PathStep}
 use Rattle.mp_base.specs.declared.place.Place.{Place}
 use Rattle.mp_ast.specs.declared.blocks.Declaration.{Declaration}
 use Rattle.mp_ast.specs.declared.blocks.Tree.{Tree}
-use Rattle.mp_ast.specs.PlainTrees.{PlainTree, TreeOf, NoTrees, plain_block, trees_of, plain_tree}
+use Rattle.mp_ast.specs.PlainTrees.{PlainTree, TreeOf, plain_block, trees_of, plain_tree}
 use Rattle.mp_ast.specs.Blocks.{PlacedBlock, nested_in, tokens_of, index_from, index_of, blocks_from, blocks_inside}
 use Rattle.mp_ast.specs.SharedTrees.{IsOfAProgram, own_of, inside_of}
 use Rattle.mp_ast.specs.Descent.{StandingTree, standing_at, nested_of, entered, entered_from, descended, index_at}
@@ -17,7 +17,7 @@ use Rattle.mp_ast.specs.declared.block_list.PlacedBlock.{PlacedBlock as ListedBl
 use Rattle.mp_ast.specs.BlockLists.{placed}
 use Rattle.mp_ast.proofs.DescentLemmas.{index_by_steps}
 use Rattle.mp_ast.proofs.SharedLemmas.{plain_tree-parts}
-use Rattle.mp_ast.proofs.NestedLemmas.{Remain, with_blocks, nested_by, all_remain, few_remain, start_is_small, next_is_small, next_remain}
+use Rattle.mp_ast.proofs.NestedLemmas.{Remain, with_blocks, all_remain, few_remain, start_is_small, next_is_small, next_remain}
 use Rattle.mp_ast.proofs.WalkLemmas.{is_step, is_other_name, is_other_number, one_more_named, no_more_named, counts_are_few, entered_here, entered_past}
 use Rattle.mp_ast.proofs.WalkLemmas.{index_here, index_past, blocks_turn, entered_none, index_last, blocks_none}
 

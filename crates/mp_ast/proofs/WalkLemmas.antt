@@ -1,6 +1,6 @@
 -- What one turn of a walk over nested blocks does for the way down to a block, for the index of an own token, and for the
 -- list of blocks.
-use Rattle.std.proofs.Common.{◌≡◌, ℕ, ◌+◌, ◌≤◌, ◌<◌, Bool, true, false, ◌&&◌, cond, List, [], ◌∷◌, ◌++◌, count_by, nat_eq, nat_le, length, Option, Some, None}
+use Rattle.std.proofs.Common.{◌≡◌, ℕ, ◌+◌, ◌≤◌, ◌<◌, Bool, true, false, ◌&&◌, cond, List, [], ◌∷◌, ◌++◌, count_by, nat_eq, nat_le, length, Some, None}
 use Rattle.std.proofs.Common.{refl, sym, ap, ◌∙◌, arith}
 use Rattle.std.specs.Prelude.{bytes_eq}
 use Rattle.std.proofs.lemmas.Bool.{cond-true, cond-false, eq-eqb, eqb-true, le-leb, lt-leb, false_from_ne_true}
@@ -9,11 +9,10 @@ use Rattle.std.proofs.lemmas.Slice.Eq.{bytes_eq-Decides}
 use Rattle.mp_base.specs.declared.path.PathStep.{PathStep}
 use Rattle.mp_ast.specs.declared.blocks.Declaration.{Declaration}
 use Rattle.mp_ast.specs.declared.blocks.Tree.{Tree}
-use Rattle.mp_ast.specs.PlainTrees.{PlainTrees, NoTrees, Beside, plain_block, trees_of, plain_tree}
-use Rattle.mp_ast.specs.Blocks.{Nested, PlacedBlock, nested_in, tokens_of, same_step, index_from, blocks_from, blocks_inside}
-use Rattle.mp_ast.specs.SharedTrees.{own_of, inside_of}
-use Rattle.mp_ast.specs.Descent.{StandingTree, standing_at, nested_of, entered, entered_from}
-use Rattle.mp_ast.proofs.NestedLemmas.{Remain, with_blocks, nested_by, nested_next, nested_none}
+use Rattle.mp_ast.specs.PlainTrees.{PlainTrees, NoTrees, Beside, trees_of, plain_tree}
+use Rattle.mp_ast.specs.Blocks.{Nested, tokens_of, same_step, index_from, blocks_from, blocks_inside}
+use Rattle.mp_ast.specs.Descent.{StandingTree, nested_of, entered}
+use Rattle.mp_ast.proofs.NestedLemmas.{with_blocks, nested_by, nested_next, nested_none}
 
 -- ---- steps
 

@@ -1,5 +1,5 @@
 -- The blocks of a program are well-formed. By induction over how deep blocks stand in one another.
-use Rattle.std.proofs.Common.{◌≡◌, ℕ, zero, suc, ◌+◌, List, [], ◌∷◌, ◌++◌, map, Option, None, sym, subst}
+use Rattle.std.proofs.Common.{ℕ, zero, suc, ◌+◌, List, [], ◌∷◌, ◌++◌, map, Option, None, sym, subst}
 use Rattle.std.specs.List.{AllByRecursion}
 use Rattle.mp_base.specs.declared.path.PathStep.{PathStep}
 use Rattle.mp_ast.specs.declared.tokens.TokenKind.{TokenKind}
@@ -17,7 +17,7 @@ use Rattle.mp_ast.specs.PlainTrees.{plain_statement_part, plain_block, trees_of,
 use Rattle.mp_ast.specs.Blocks.{Nested, nested_in, tokens_of, PlacedBlock, blocks_from, blocks_inside, blocks}
 use Rattle.mp_ast.specs.WellFormed.{IsType, IsDenoter, HasStatement, AreStatements, AreTypeDefinitions, AreDeclarations, IsWellFormed}
 use Rattle.mp_ast.proofs.PlainTreeLemmas.{plain_tree-roll}
-use Rattle.mp_ast.proofs.Yielding.{Yields, Any, any, nothing, never, next, past, made, either, repeated, row, all-append, all_of, goes_deeper, own_ordinals}
+use Rattle.mp_ast.proofs.Yielding.{Yields, nothing, never, next, past, made, either, repeated, all-append, goes_deeper, own_ordinals}
 use Rattle.mp_ast.proofs.WellFormedStatements.{statements_are, has_statement, sequence_behind_yields}
 use Rattle.mp_ast.proofs.WellFormedTypes.{GoodSection, sections_are, section_yields, denoter_yields}
 use Rattle.mp_ast.proofs.WellFormedHeadings.{GoodHeading, heading_yields}

@@ -5,16 +5,14 @@ use Rattle.mp_ast.specs.declared.leaves.Sign.{Sign}
 use Rattle.mp_ast.specs.declared.expressions.Operator.{Operator}
 use Rattle.mp_ast.specs.declared.expressions.Selector.{Selector}
 use Rattle.mp_ast.specs.declared.expressions.Selector.TheVariants as selector
-use Rattle.mp_ast.specs.declared.expressions.Access.{Access}
 use Rattle.mp_ast.specs.declared.expressions.Actual.{Actual}
 use Rattle.mp_ast.specs.declared.expressions.Width.{Width}
 use Rattle.mp_ast.specs.declared.expressions.Member.{Member}
 use Rattle.mp_ast.specs.declared.expressions.Operation.{Operation}
 use Rattle.mp_ast.specs.declared.expressions.Expr.{Expr}
-use Rattle.mp_ast.specs.declared.expressions.Expr.TheVariants as e
 use Rattle.mp_ast.specs.Rules.{Rule}
 use Rattle.mp_ast.specs.ExpressionGrammar.{Deeper, behind, operation, relational_operator, adding_operator, multiplying_operator, product, sum, relation}
-use Rattle.mp_ast.specs.ExpressionGrammar.{access_with, actuals_with, member, factor_with, term, simple_expression, expression_with, expression, access}
+use Rattle.mp_ast.specs.ExpressionGrammar.{access_with, actuals_with, factor_with, term, simple_expression, expression_with, expression, access}
 use Rattle.mp_ast.specs.ExpressionGrammar.{actuals}
 use Rattle.mp_ast.specs.PlainExpressions as plain
 use Rattle.mp_ast.specs.PlainExpressions.{PlainExpr, PlainSelectors, PlainActuals, PlainMembers, selectors_of, with_selector, with_actual, with_member}
@@ -23,7 +21,7 @@ use Rattle.mp_ast.specs.WellFormed.{IsSome, IsRelational, IsAdding, IsMultiplyin
 use Rattle.mp_ast.specs.WellFormed.{AreActuals, AreMembers, AreOperations, IsAccess}
 use Rattle.mp_ast.proofs.PlainExpressionLemmas.{plain_expr-Number, plain_expr-Text, plain_expr-Nil, plain_expr-Access, plain_expr-Call, plain_expr-Inside}
 use Rattle.mp_ast.proofs.PlainExpressionLemmas.{plain_expr-Not, plain_expr-Set, plain_expr-Product, plain_expr-Sum, plain_expr-Relation}
-use Rattle.mp_ast.proofs.Yielding.{Yields, Any, Optional, Row, any, nothing, never, next, past, made, either, maybe, repeated, repeated_lists, row, all_of}
+use Rattle.mp_ast.proofs.Yielding.{Yields, Optional, Row, any, nothing, never, next, past, made, either, maybe, repeated, repeated_lists, row, all_of}
 
 -- ---- what operands are
 

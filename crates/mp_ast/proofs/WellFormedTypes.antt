@@ -1,17 +1,21 @@
 -- The rules of type denoters give well-formed ones.
-use Rattle.std.proofs.Common.{◌≡◌, ℕ, zero, suc, List, [], ◌∷◌, Option, Some, None, refl, sym, subst}
+use Rattle.std.proofs.Common.{◌≡◌, inl, inr, ℕ, zero, suc, ◌+◌, List, [], ◌∷◌, Option, Some, None, refl, sym, ap, ◌∙◌, subst}
 use Rattle.std.specs.List.{AllByRecursion}
+use Rattle.mp_ast.specs.declared.tokens.TokenKind.{TokenKind}
+use Rattle.mp_ast.specs.declared.tokens.TokenKind.TheVariants.{Word}
+use Rattle.mp_ast.specs.declared.words.WordSymbol.TheVariants as w
 use Rattle.mp_ast.specs.declared.types.Index.{Index}
 use Rattle.mp_ast.specs.declared.types.Section.{Section}
 use Rattle.mp_ast.specs.declared.types.Variant.{Variant}
 use Rattle.mp_ast.specs.declared.types.VariantPart.{VariantPart}
 use Rattle.mp_ast.specs.declared.types.Denoter.{Denoter}
 use Rattle.mp_ast.specs.declared.types.Denoter.TheVariants as d
-use Rattle.mp_ast.specs.Rules.{Rule}
-use Rattle.mp_ast.specs.TypeGrammar.{Deeper, behind, simple_type, section, structure, variant_part, denoter_with, field_list_with, denoter}
+use Rattle.mp_ast.specs.Rules.{Input, Rule, ◌>>=◌, ◌<$>◌, word, opener}
+use Rattle.mp_ast.specs.TypeGrammar.{Deeper, behind, simple_type, section, structure_word, first_of, array_type, record_type, set_type, structure, packed_structure}
+use Rattle.mp_ast.specs.TypeGrammar.{variant_part, denoter_with, field_list_with, denoter}
 use Rattle.mp_ast.specs.PlainTypes as plain
 use Rattle.mp_ast.specs.PlainTypes.{PlainDenoter, indices_of, variants_of, plain_denoter, plain_sections}
-use Rattle.mp_ast.specs.WellFormed.{IsSome, IsSimpleType, IsFieldList, IsType, HasVariant, IsDenoter, AreIndices, AreSections, AreVariants}
+use Rattle.mp_ast.specs.WellFormed.{IsSome, IsSimpleType, IsFieldList, IsType, IsFirstWord, HasVariant, IsDenoter, AreIndices, AreSections, AreVariants}
 use Rattle.mp_ast.proofs.PlainTypeLemmas.{plain_denoter-Named, plain_denoter-Enumeration, plain_denoter-Subrange, plain_denoter-Pointer, plain_denoter-Array}
 use Rattle.mp_ast.proofs.PlainTypeLemmas.{plain_denoter-Record, plain_denoter-Set, plain_denoter-File, plain_denoter-Fields, plain_denoter-FieldsWithVariants}
 use Rattle.mp_ast.proofs.Yielding.{Yields, Any, Optional, Row, any, nothing, never, next, past, made, either, maybe, repeated, row}
@@ -97,23 +101,47 @@ record DeeperYields (b : Deeper) : Type 0 where
   pub denoter : Yields Good b.denoter
   pub field_list : Yields FieldList b.field_list
 
+opener_next : (room : ℕ) (k : TokenKind) (i : Input) (at : ℕ) (j : Input) → opener room k i at j → j.at ≡ at + 1
+opener_next zero k i at j h = elim h [ ]
+opener_next (suc room) k i at j h = h.2 ∙ ap (λ n. n + 1) h.1
+
 module _ (room : ℕ) (b : Deeper) (c : DeeperYields b) where
-  structure_yields : (packed : Option ℕ) → Yields Good (structure room b packed)
-  structure_yields packed =
-      either
-      (past (λ at. past (λ bracket. next simple_yields (λ of v.
+  array_yields : (packed : Option ℕ) → Yields Good (array_type room b packed)
+  array_yields packed =
+      past (λ at. past (λ bracket. next simple_yields (λ of v.
       next (repeated {P = GoodIndex} (past (λ comma. next simple_yields (λ of w. nothing (w.0, w.1))))) (λ more w. past (λ end. past (λ word. made c.denoter (λ component u.
-      as_type _ _ (plain_denoter-Array _ _ _ component) tt (refl, (v.0, v.1, indices_are more w), u.0, u.1)))))))))
-      (either (past (λ at. next c.field_list (λ fields v. past (λ end. nothing (as_type _ _ (plain_denoter-Record _ _ fields) tt (v.0, v.1))))))
-      (either (past (λ at. past (λ word. made simple_yields (λ base v. as_type _ _ (plain_denoter-Set _ _ base) tt (v.0, v.1)))))
-      (past (λ at. past (λ word. made c.denoter (λ component v. as_type _ _ (plain_denoter-File _ _ component) tt (v.0, v.1)))))))
+      as_type _ _ (plain_denoter-Array _ _ _ component) tt (refl, (v.0, v.1, indices_are more w), u.0, u.1))))))))
+
+  record_yields : (packed : Option ℕ) → Yields Good (record_type room b packed)
+  record_yields packed = past (λ at. next c.field_list (λ fields v. past (λ end. nothing (as_type _ _ (plain_denoter-Record _ _ fields) tt (v.0, v.1)))))
+
+  set_yields : (packed : Option ℕ) → Yields Good (set_type room b packed)
+  set_yields packed = past (λ at. past (λ word. made simple_yields (λ base v. as_type _ _ (plain_denoter-Set _ _ base) tt (v.0, v.1))))
+
+  -- the words behind `file`
+  component_yields : (at file : ℕ) → IsFirstWord at file → Yields Good (word w.Of >>= (λ of. d.File at file <$> b.denoter))
+  component_yields at file v = past (λ of. made c.denoter (λ component u. as_type _ _ (plain_denoter-File at file component) tt (v, u.0, u.1)))
+
+  structure_is :
+      (packed : Option ℕ) (i : Input) → ((at : ℕ) (j : Input) → structure_word room b packed w.File i at j → IsFirstWord (first_of room b packed at) at) →
+      (x : Denoter) (j : Input) → structure room b packed i x j → Good x
+  structure_is packed i v x j (inl h) = (array_yields packed).yields i x j h
+  structure_is packed i v x j (inr (inl h)) = (record_yields packed).yields i x j h
+  structure_is packed i v x j (inr (inr (inl h))) = (set_yields packed).yields i x j h
+  structure_is packed i v x j (inr (inr (inr h))) = (component_yields _ h.0 (v h.0 h.1 h.2)).yields h.1 x j h.3
+
+  -- `packed` stands before the word of its structure
+  packed_yields : Yields Good (packed_structure room b)
+  packed_yields = record {
+    yields = λ i x j h. structure_is (Some h.0) h.1 (λ at k o. inr (sym o.1 ∙ opener_next room (Word w.Packed) i h.0 h.1 h.2)) x j h.3;
+  }
 
   denoter_yields_with : Yields Good (denoter_with room b)
   denoter_yields_with =
       either (record { yields = λ i x j h. let v = simple_yields.yields i x j h in (simple_is_type (plain_denoter x) v.0, v.1) })
       (either (past (λ at. made any (λ name u. as_type _ _ (plain_denoter-Pointer at name) tt tt)))
-      (either (structure_yields None)
-      (past (λ at. structure_yields (Some at)))))
+      (either (record { yields = λ i x j h. structure_is None i (λ at k o. inl refl) x j h })
+      packed_yields))
 
   part_yields : Yields GoodPart (variant_part room b)
   part_yields =

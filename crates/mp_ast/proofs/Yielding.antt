@@ -1,5 +1,5 @@
 -- What each tree has that a rule gives. One lemma for each way in which rules are put together; the productions follow.
-use Rattle.std.proofs.Common.{◌≡◌, ℕ, zero, suc, ◌⊎◌, inl, inr, List, [], ◌∷◌, ◌++◌, Option, Some, None, subst}
+use Rattle.std.proofs.Common.{ℕ, zero, suc, ◌⊎◌, inl, inr, List, [], ◌∷◌, ◌++◌, Option, Some, None, subst}
 use Rattle.std.specs.List.{AllByRecursion}
 use Rattle.mp_ast.specs.Rules.{Input, Rule, ◌>>=◌, ◌<$>◌, ◌<|>◌, gives, none, optional, Many, no_more, one_more, many, many_lists, joined, separated, deeper, with_own_ordinals}
 use Rattle.mp_ast.specs.WellFormed.{IsSome}

@@ -1,5 +1,5 @@
 -- The blocks of a tree as code lists them.
-use Rattle.std.specs.Prelude.{◌≡◌, ℕ, List, Option, count_by, bytes_eq}
+use Rattle.std.specs.Prelude.{◌≡◌, ℕ, List, count_by, bytes_eq}
 use Rattle.std.specs.Option.{unwrap_or}
 use Rattle.std.specs.HashMap.{HashMap, get}
 use Rattle.mp_ast.specs.declared.block_list.PlacedBlock.{PlacedBlock as ListedBlock}

@@ -133,6 +133,16 @@ abbrev pub HasArm : PlainArms → Type 0
 HasArm statement.NoArms = ⊥
 HasArm (statement.Arm constants body more) = Unit {0}
 
+-- an `if` without `else` ends the statement, so that an `else` behind it would belong to that `if`
+abbrev pub TakesElse : PlainStatement → Type 0
+TakesElse (statement.Labelled label s) = TakesElse s
+TakesElse (statement.If at condition first) = Unit {0}
+TakesElse (statement.IfElse at condition first second) = TakesElse second
+TakesElse (statement.While at condition body) = TakesElse body
+TakesElse (statement.For at head body) = TakesElse body
+TakesElse (statement.With at records body) = TakesElse body
+TakesElse _ = ⊥
+
 abbrev mutual
   pub IsStatement : PlainStatement → Type 0
   IsStatement (statement.Labelled label s) = IsUnlabelled s × IsStatement s
@@ -142,7 +152,7 @@ abbrev mutual
   IsStatement (statement.Goto at label) = Unit {0}
   IsStatement (statement.Compound at inside) = HasStatement inside × AreStatements inside
   IsStatement (statement.If at condition first) = IsExpression condition × IsStatement first
-  IsStatement (statement.IfElse at condition first second) = IsExpression condition × IsStatement first × IsStatement second
+  IsStatement (statement.IfElse at condition first second) = IsExpression condition × IsStatement first × (TakesElse first → ⊥) × IsStatement second
   IsStatement (statement.Case at index arms) = IsExpression index × HasArm arms × AreArms arms
   IsStatement (statement.While at condition body) = IsExpression condition × IsStatement body
   IsStatement (statement.Repeat at inside condition) = HasStatement inside × AreStatements inside × IsExpression condition
@@ -182,6 +192,10 @@ abbrev pub BeginAt : ℕ → PlainIndices → Type 0
 BeginAt at denoter.NoIndices = ⊥
 BeginAt at (denoter.Index first of more) = first ≡ at
 
+-- the word of a structure is its first token, or stands behind its first token, which is `packed` then
+abbrev pub IsFirstWord : ℕ → ℕ → Type 0
+IsFirstWord at word = (word ≡ at) ⊎ (word ≡ at + 1)
+
 abbrev pub HasVariant : PlainVariants → Type 0
 HasVariant denoter.NoVariants = ⊥
 HasVariant (denoter.Variant constants fields more) = Unit {0}
@@ -195,7 +209,7 @@ abbrev mutual
   IsDenoter (denoter.Array at packed by component) = BeginAt at by × AreIndices by × IsType component × IsDenoter component
   IsDenoter (denoter.Record at packed fields) = IsFieldList fields × IsDenoter fields
   IsDenoter (denoter.Set at packed base) = IsSimpleType base × IsDenoter base
-  IsDenoter (denoter.File at file component) = IsType component × IsDenoter component
+  IsDenoter (denoter.File at file component) = IsFirstWord at file × IsType component × IsDenoter component
   IsDenoter (denoter.Fields fixed) = AreSections fixed
   IsDenoter (denoter.FieldsWithVariants fixed at tag of cases) = AreSections fixed × HasVariant cases × AreVariants cases
 
