@@ -1,8 +1,9 @@
 #![tactic(auto, unfolding(crate::specs::Parsers::next_token, crate::specs::Parsers::behind, crate::specs::Parsers::left, crate::specs::Parsers::wrong, crate::specs::Parsers::too_deep, crate::specs::Parsers::too_many, crate::specs::Parsers::expect, crate::specs::Parsers::opening, crate::specs::Parsers::counted))]
 
-ghost use Rattle.std.specs.Prelude.{◌≡◌, ◌+◌, ◌-◌, ◌<◌, ◌≤◌, IfOk, bytes_eq, drop, if◌then◌else◌, length};
+ghost use Rattle.std.specs.Prelude.{◌≡◌, ◌≢◌, ◌+◌, ◌-◌, ◌<◌, ◌≤◌, IfErr, IfOk, bytes_eq, drop, if◌then◌else◌, length};
 ghost use Rattle.mp_ast.specs.Programs.{kinds_of, start_of};
 ghost use Rattle.mp_cursor.specs.Nexts.{is};
+ghost use Rattle.mp_cursor.specs.declared.failure.Failure.TheVariants as failure;
 ghost use Rattle.mp_cursor.specs.Parsers as spec;
 ghost use Rattle.mp_cursor.specs.Parsers.{Reads};
 
@@ -147,7 +148,8 @@ impl<'a> Cursor<'a> {
 
     /// Goes past the next token, which is to be this one, and answers its ordinal.
     pub fn expect(&mut self, next: Next) -> Result<u32, Failure>
-        ensures { Reads (spec.expect next self.old) result self.new }
+        ensures reads { Reads (spec.expect next self.old) result self.new }
+        ensures memory { IfErr result (λ e. e ≢ failure.Memory) }
     {
         if self.sees(next) {
             Ok(self.take())
@@ -161,6 +163,7 @@ impl<'a> Cursor<'a> {
     pub fn open(&mut self, next: Next, room: usize) -> Result<u32, Failure>
         ensures reads { Reads (spec.opening room next self.old) result self.new }
         ensures room { IfOk result (λ at. 0 < room) }
+        ensures memory { IfErr result (λ e. e ≢ failure.Memory) }
     {
         if !self.sees(next) {
             return Err(self.wrong());
@@ -173,7 +176,8 @@ impl<'a> Cursor<'a> {
 
     /// Counts one more declaration, of at most `DECLARATION_LIMIT` with the program.
     pub fn declare(&mut self) -> Result<(), Failure>
-        ensures { Reads (spec.counted (DECLARATION_LIMIT - 1) self.old) result self.new }
+        ensures reads { Reads (spec.counted (DECLARATION_LIMIT - 1) self.old) result self.new }
+        ensures memory { IfErr result (λ e. e ≢ failure.Memory) }
     {
         if self.declared >= DECLARATION_LIMIT as u32 - 1 {
             return Err(Failure::TooMany(self.left()));
@@ -208,7 +212,8 @@ impl<'a> Cursor<'a> {
     /// Goes past the identifier of this spelling in lower case, and answers its ordinal.
     #[tactic(auto, unfolding(crate::specs::Parsers::directive))]
     pub fn directive(&mut self, spelling: &str) -> Result<u32, Failure>
-        ensures { Reads (spec.directive spelling.now self.old) result self.new }
+        ensures reads { Reads (spec.directive spelling.now self.old) result self.new }
+        ensures memory { IfErr result (λ e. e ≢ failure.Memory) }
     {
         let at = self.at;
         let left = self.rest.len();
@@ -234,7 +239,8 @@ impl<'a> Cursor<'a> {
     /// Goes past a number.
     #[tactic(auto, unfolding(crate::specs::Parsers::number))]
     pub fn number(&mut self) -> Result<Number, Failure>
-        ensures { Reads (spec.number self.old) result self.new }
+        ensures reads { Reads (spec.number self.old) result self.new }
+        ensures memory { IfErr result (λ e. e ≢ failure.Memory) }
     {
         let at = self.at;
         match self.rest {

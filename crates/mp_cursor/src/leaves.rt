@@ -1,5 +1,6 @@
-ghost use Rattle.std.specs.Prelude.{◌≡◌, ◌∷◌};
+ghost use Rattle.std.specs.Prelude.{◌≡◌, ◌≢◌, ◌∷◌, IfErr};
 ghost use Rattle.mp_cursor.specs.Nexts as nexts;
+ghost use Rattle.mp_cursor.specs.declared.failure.Failure.TheVariants as failure;
 ghost use Rattle.mp_cursor.specs.LeafTokens.{constant_begins};
 ghost use Rattle.mp_cursor.specs.Leaves as spec;
 ghost use Rattle.mp_cursor.specs.Parsers.{Reads, identifier as name};
@@ -16,7 +17,8 @@ use std::alloc::Global;
 
 #[tactic(auto, unfolding(crate::specs::Leaves::sign))]
 fn sign(tokens: &mut Cursor<'_>) -> Result<Sign, Failure>
-    ensures { Reads (spec.sign tokens.old) result tokens.new }
+    ensures reads { Reads (spec.sign tokens.old) result tokens.new }
+    ensures memory { IfErr result (λ e. e ≢ failure.Memory) }
 {
     if tokens.sees(Next::Symbol(Symbol::Plus)) {
         let at = tokens.expect(Next::Symbol(Symbol::Plus))?;
@@ -41,7 +43,8 @@ fn is_sign(next: Next) -> bool
 /// A sign, where one stands next (ISO 7185, 6.1.5).
 #[tactic(auto, unfolding(crate::specs::Leaves::optional_sign))]
 pub fn optional_sign(tokens: &mut Cursor<'_>) -> Result<Option<Sign>, Failure>
-    ensures { Reads (spec.optional_sign tokens.old) result tokens.new }
+    ensures reads { Reads (spec.optional_sign tokens.old) result tokens.new }
+    ensures memory { IfErr result (λ e. e ≢ failure.Memory) }
 {
     if !is_sign(tokens.next()) {
         return Ok(None);
