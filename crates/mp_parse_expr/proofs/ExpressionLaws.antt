@@ -28,7 +28,7 @@ use Rattle.mp_cursor.proofs.ListLaws.{law_many_lists, law_separated, law_further
 use Rattle.mp_cursor.proofs.ConstantLaws.{law_optional_sign}
 use Rattle.mp_parse_expr.specs.Operators.{written, relational, relational_operator, adding, adding_operator, multiplying, multiplying_operator}
 use Rattle.mp_parse_expr.specs.Expressions as p
-use Rattle.mp_parse_expr.specs.ExpressionFollows.{after_access, after_expression}
+use Rattle.mp_parse_expr.specs.ExpressionFollows.{after_expression}
 
 -- ---- operators
 
@@ -143,7 +143,6 @@ module _ (room : ℕ) (d : p.Deeper) (r : g.Deeper) (behind : BehindLaws d r) wh
       law_then (law_symbol s.Colon) (within_any expression_begins) (λ at. law_then behind.expression (within_itself after_expression) (λ value. law_pure _ after_expression))
 
   law_optional_width : Law true (either (is (Symbol s.Colon)) ends_actual) ends_actual (p.optional_width room d) (rule.optional (g.width room r))
-  unfolding p.optional_width
   law_optional_width = law_optional (is (Symbol s.Colon)) ends_actual (law_followed ends_actual refl law_width) refl refl
 
   law_actual : Law true expression_begins ends_actual (p.actual room d) (g.actual room r)

@@ -87,7 +87,7 @@ module _ (room : ℕ) (behind : Deeper) where
     value ← behind.expression
     pure (record { at = at; value = value })
 
-  unfoldable pub optional_width : Parser (Option (Width Expr))
+  abbrev pub optional_width : Parser (Option (Width Expr))
   optional_width = optional (is (Symbol s.Colon)) width
 
   unfoldable pub actual : Parser (Actual Expr)

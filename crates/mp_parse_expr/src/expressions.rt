@@ -147,7 +147,7 @@ pub fn access_behind(
 // ---- actual parameters
 
 #[cycle(expressions)]
-#[tactic(auto, using(crate::proofs::RoomLemmas::behind_is), unfolding(crate::specs::Expressions::actual, crate::specs::Expressions::optional_width, crate::specs::Expressions::width))]
+#[tactic(auto, using(crate::proofs::RoomLemmas::behind_is), unfolding(crate::specs::Expressions::actual, crate::specs::Expressions::width))]
 fn actual(alloc: Global, tokens: &mut Cursor<'_>, room: usize) -> Result<Actual<Expr>, Failure>
     requires { 0 < room }
     ensures { Reads (spec.actual room (behind room) tokens.old) result tokens.new }

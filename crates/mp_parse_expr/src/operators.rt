@@ -1,5 +1,6 @@
-ghost use Rattle.std.specs.Prelude.{◌≡◌};
+ghost use Rattle.std.specs.Prelude.{◌≡◌, ◌≢◌, IfErr};
 ghost use Rattle.mp_cursor.specs.Parsers.{Reads};
+ghost use Rattle.mp_cursor.specs.declared.failure.Failure.TheVariants as failure;
 ghost use Rattle.mp_parse_expr.specs.Operators as spec;
 
 use mp_ast::{Operator, Symbol, WordSymbol};
@@ -11,7 +12,8 @@ fn written(
     next: Next,
     operator: Operator,
 ) -> Result<(u32, Operator), Failure>
-    ensures { Reads (spec.written next operator tokens.old) result tokens.new }
+    ensures reads { Reads (spec.written next operator tokens.old) result tokens.new }
+    ensures memory { IfErr result (λ e. e ≢ failure.Memory) }
 {
     let at = tokens.expect(next)?;
     Ok((at, operator))
@@ -37,7 +39,8 @@ pub fn is_relational(next: Next) -> bool
 /// A relational operator, with its ordinal (ISO 7185, 6.7.2.5).
 #[tactic(auto, unfolding(crate::specs::Operators::relational_operator))]
 pub fn relational_operator(tokens: &mut Cursor<'_>) -> Result<(u32, Operator), Failure>
-    ensures { Reads (spec.relational_operator tokens.old) result tokens.new }
+    ensures reads { Reads (spec.relational_operator tokens.old) result tokens.new }
+    ensures memory { IfErr result (λ e. e ≢ failure.Memory) }
 {
     match tokens.next() {
         Next::Symbol(Symbol::Equal) => written(
@@ -83,7 +86,8 @@ pub fn is_adding(next: Next) -> bool
 /// An adding operator, with its ordinal (ISO 7185, 6.7.2.1).
 #[tactic(auto, unfolding(crate::specs::Operators::adding_operator))]
 pub fn adding_operator(tokens: &mut Cursor<'_>) -> Result<(u32, Operator), Failure>
-    ensures { Reads (spec.adding_operator tokens.old) result tokens.new }
+    ensures reads { Reads (spec.adding_operator tokens.old) result tokens.new }
+    ensures memory { IfErr result (λ e. e ≢ failure.Memory) }
 {
     match tokens.next() {
         Next::Symbol(Symbol::Plus) => written(tokens, Next::Symbol(Symbol::Plus), Operator::Add),
@@ -109,7 +113,8 @@ pub fn is_multiplying(next: Next) -> bool
 /// A multiplying operator, with its ordinal (ISO 7185, 6.7.2.1).
 #[tactic(auto, unfolding(crate::specs::Operators::multiplying_operator))]
 pub fn multiplying_operator(tokens: &mut Cursor<'_>) -> Result<(u32, Operator), Failure>
-    ensures { Reads (spec.multiplying_operator tokens.old) result tokens.new }
+    ensures reads { Reads (spec.multiplying_operator tokens.old) result tokens.new }
+    ensures memory { IfErr result (λ e. e ≢ failure.Memory) }
 {
     match tokens.next() {
         Next::Symbol(Symbol::Star) => written(
