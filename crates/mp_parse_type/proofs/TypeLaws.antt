@@ -21,8 +21,8 @@ use Rattle.mp_ast.specs.LeafGrammar as leaf
 use Rattle.mp_ast.specs.TypeGrammar as g
 use Rattle.mp_cursor.specs.declared.next.Next.TheVariants as next
 use Rattle.mp_cursor.specs.declared.next.Next.TheVariants.{Word, Symbol}
-use Rattle.mp_cursor.specs.Nexts.{Nexts, class_of, is, any, either, among, but}
-use Rattle.mp_cursor.specs.Parsers.{Parser, ◌>>=◌, next_token, branch}
+use Rattle.mp_cursor.specs.Nexts.{Nexts, class_of, is, any, either, among}
+use Rattle.mp_cursor.specs.Parsers.{Parser, ◌>>=◌, next_token}
 use Rattle.mp_cursor.specs.Parsers as parser
 use Rattle.mp_cursor.specs.Leaves.{signs}
 use Rattle.mp_cursor.specs.LeafTokens.{constant_begins}

@@ -1,3 +1,5 @@
+#![tactic(auto, using(mp_cursor::proofs::LoopLemmas::loop_more, mp_cursor::proofs::LoopLemmas::loop_done), unfolding(mp_cursor::specs::Parsers::expect, mp_cursor::specs::Parsers::repeated, crate::specs::Headings::further_formal))]
+
 ghost use Rattle.std.specs.Prelude.{◌≡◌};
 ghost use Rattle.mp_cursor.specs.Parsers.{Reads};
 ghost use Rattle.mp_parse_type.specs.Headings as spec;
@@ -97,7 +99,6 @@ fn formal(alloc: Global, tokens: &mut Cursor<'_>, room: usize) -> Result<FormalS
 }
 
 #[cycle(formals)]
-#[tactic(auto, using(mp_cursor::proofs::LoopLemmas::loop_more, mp_cursor::proofs::LoopLemmas::loop_done), unfolding(mp_cursor::specs::Parsers::expect, mp_cursor::specs::Parsers::repeated, crate::specs::Headings::further_formal))]
 fn further_formals(
     alloc: Global,
     tokens: &mut Cursor<'_>,

@@ -1,5 +1,8 @@
-ghost use Rattle.std.specs.Prelude.{◌≡◌, ◌<◌, IfOk};
+#![tactic(auto, using(mp_cursor::proofs::LoopLemmas::loop_more, mp_cursor::proofs::LoopLemmas::loop_done, mp_cursor::proofs::LoopLemmas::series_more, mp_cursor::proofs::LoopLemmas::series_done, crate::proofs::LoopLemmas::last_more, crate::proofs::LoopLemmas::last_done), unfolding(mp_cursor::specs::Parsers::expect, mp_cursor::specs::Parsers::repeated, mp_cursor::specs::Parsers::repeated_series, crate::specs::Types::repeated_and_last, crate::specs::Types::further_index, crate::specs::Types::further_variant, crate::specs::Types::further_section))]
+
+ghost use Rattle.std.specs.Prelude.{◌≡◌, ◌≢◌, ◌<◌, IfErr, IfOk};
 ghost use Rattle.mp_cursor.specs.Parsers.{Reads};
+ghost use Rattle.mp_cursor.specs.declared.failure.Failure.TheVariants as failure;
 ghost use Rattle.mp_parse_type.specs.Types as spec;
 ghost use Rattle.mp_parse_type.specs.Types.{behind, HasOpened};
 
@@ -90,6 +93,7 @@ fn structure_word(
     requires { HasOpened packed room }
     ensures reads { Reads (spec.structure_word room (behind room) packed word tokens.old) result tokens.new }
     ensures room { IfOk result (λ at. 0 < room) }
+    ensures memory { IfErr result (λ e. e ≢ failure.Memory) }
 {
     match packed {
         None => tokens.open(Next::Word(word), room),
@@ -97,7 +101,6 @@ fn structure_word(
     }
 }
 
-#[tactic(auto, using(mp_cursor::proofs::LoopLemmas::loop_more, mp_cursor::proofs::LoopLemmas::loop_done), unfolding(mp_cursor::specs::Parsers::repeated, crate::specs::Types::further_index))]
 fn further_indices(
     alloc: Global,
     tokens: &mut Cursor<'_>,
@@ -291,7 +294,6 @@ fn variant(alloc: Global, tokens: &mut Cursor<'_>, room: usize) -> Result<Varian
 }
 
 #[cycle(denoters)]
-#[tactic(auto, using(mp_cursor::proofs::LoopLemmas::series_more, mp_cursor::proofs::LoopLemmas::series_done), unfolding(mp_cursor::specs::Parsers::expect, mp_cursor::specs::Parsers::repeated_series, crate::specs::Types::further_variant))]
 fn further_variants(
     alloc: Global,
     tokens: &mut Cursor<'_>,
@@ -383,7 +385,6 @@ fn last_fields(
 
 // The sections behind the first ones, and the variant part.
 #[cycle(denoters)]
-#[tactic(auto, using(crate::proofs::LoopLemmas::last_more, crate::proofs::LoopLemmas::last_done), unfolding(mp_cursor::specs::Parsers::expect, crate::specs::Types::repeated_and_last, crate::specs::Types::further_section))]
 fn further_fields(
     alloc: Global,
     tokens: &mut Cursor<'_>,
