@@ -6,7 +6,7 @@ use Rattle.mp_ast.specs.declared.symbols.Symbol.TheVariants as s
 use Rattle.mp_ast.specs.declared.leaves.Identifier.{Identifier}
 use Rattle.mp_ast.specs.declared.statements.Statement.{Statement}
 use Rattle.mp_ast.specs.declared.statements.Statement.TheVariants as t
-use Rattle.mp_ast.specs.Rules.{Input, Rule}
+use Rattle.mp_ast.specs.Rules.{Rule}
 use Rattle.mp_ast.specs.Rules as rule
 use Rattle.mp_ast.specs.ExpressionGrammar as e
 use Rattle.mp_ast.specs.StatementGrammar as g
@@ -107,7 +107,6 @@ module _ (room : ℕ) (d : p.Deeper) (r : g.Deeper) (behind : BehindLaws d r) wh
       law_pure _ after_expression)))))
 
   law_records : Law true (is next.Identifier) (is (Word w.Do)) (p.records d.access) (rule.separated (rule.symbol s.Comma) r.access)
-  unfolding p.records p.further_record
   law_records = law_separated (kind.Symbol s.Comma) (symbol_only s.Comma) (is (Word w.Do)) behind.access refl refl refl
 
   -- ---- what has statements in it

@@ -15,7 +15,7 @@ use Rattle.mp_ast.specs.declared.statements.Statement.TheVariants as t
 use Rattle.mp_cursor.specs.declared.next.Next.TheVariants as next
 use Rattle.mp_cursor.specs.declared.next.Next.TheVariants.{Word, Symbol}
 use Rattle.mp_cursor.specs.Nexts.{Nexts, is, among}
-use Rattle.mp_cursor.specs.Parsers.{Parser, ◌>>=◌, ◌>>◌, ◌<$>◌, pure, refuse, branch, here, expect, opening, identifier, number, repeated, repeated_series, and_one, optional}
+use Rattle.mp_cursor.specs.Parsers.{Parser, ◌>>=◌, ◌>>◌, ◌<$>◌, pure, refuse, branch, here, expect, opening, identifier, number, repeated, repeated_series, and_one, separated, optional}
 use Rattle.mp_cursor.specs.Leaves.{constants}
 use Rattle.mp_cursor.specs.LeafTokens.{constant_begins}
 use Rattle.mp_parse_expr.specs.Expressions.{expression, access, access_behind, actuals}
@@ -72,13 +72,8 @@ for_head expression = do
   pure (record { variable = variable; assign = assign; first = first; direction = way; last = last })
 
 -- accesses with commas between them
-unfoldable pub further_record : Parser (Access Expr) → List (Access Expr) → Parser (List (Access Expr))
-further_record access = and_one (expect (Symbol s.Comma) >> access)
-
-unfoldable pub records : Parser (Access Expr) → Parser (List (Access Expr))
-records access = do
-  first ← access
-  repeated (is (Symbol s.Comma)) (further_record access) (first ∷ [])
+abbrev pub records : Parser (Access Expr) → Parser (List (Access Expr))
+records access = separated (Symbol s.Comma) access
 
 -- ---- what has statements in it
 

@@ -1,5 +1,6 @@
-ghost use Rattle.std.specs.Prelude.{◌≡◌, [], ◌∷◌};
+ghost use Rattle.std.specs.Prelude.{◌≡◌, ◌≢◌, IfErr};
 ghost use Rattle.mp_cursor.specs.Parsers.{Reads};
+ghost use Rattle.mp_cursor.specs.declared.failure.Failure.TheVariants as failure;
 ghost use Rattle.mp_parse_expr.specs.Expressions as expressions;
 ghost use Rattle.mp_parse_stmt.specs.Statements as spec;
 
@@ -13,7 +14,8 @@ use std::alloc::Global;
 
 #[tactic(auto, unfolding(mp_cursor::specs::Parsers::expect, crate::specs::Statements::direction))]
 fn direction(tokens: &mut Cursor<'_>) -> Result<Direction, Failure>
-    ensures { Reads (spec.direction tokens.old) result tokens.new }
+    ensures reads { Reads (spec.direction tokens.old) result tokens.new }
+    ensures memory { IfErr result (λ e. e ≢ failure.Memory) }
 {
     if tokens.takes(Next::Word(WordSymbol::To)) {
         return Ok(Direction::To);
@@ -69,7 +71,6 @@ impl Production for Record {
 }
 
 /// The records of a with statement (ISO 7185, 6.8.3.10).
-#[tactic(auto, unfolding(crate::specs::Statements::records, crate::specs::Statements::further_record))]
 pub(crate) fn records(
     alloc: Global,
     tokens: &mut Cursor<'_>,

@@ -1,5 +1,6 @@
-ghost use Rattle.std.specs.Prelude.{◌≡◌};
+ghost use Rattle.std.specs.Prelude.{◌≡◌, ◌≢◌, IfErr};
 ghost use Rattle.mp_cursor.specs.Parsers.{Reads};
+ghost use Rattle.mp_cursor.specs.declared.failure.Failure.TheVariants as failure;
 ghost use Rattle.mp_parse_stmt.specs.Statements as spec;
 
 use mp_ast::{Actual, Expr, Identifier, Statement, Symbol, WordSymbol};
@@ -68,7 +69,8 @@ pub(crate) fn named(
 /// A goto statement (ISO 7185, 6.8.2.4).
 #[tactic(auto, unfolding(crate::specs::Statements::goto_statement))]
 pub(crate) fn goto_statement(tokens: &mut Cursor<'_>) -> Result<Statement, Failure>
-    ensures { Reads (spec.goto_statement tokens.old) result tokens.new }
+    ensures reads { Reads (spec.goto_statement tokens.old) result tokens.new }
+    ensures memory { IfErr result (λ e. e ≢ failure.Memory) }
 {
     let at = tokens.expect(Next::Word(WordSymbol::Goto))?;
     let label = tokens.number()?;

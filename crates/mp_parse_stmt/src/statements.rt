@@ -1,3 +1,5 @@
+#![tactic(auto, using(mp_cursor::proofs::LoopLemmas::loop_more, mp_cursor::proofs::LoopLemmas::loop_done, mp_cursor::proofs::LoopLemmas::series_more, mp_cursor::proofs::LoopLemmas::series_done), unfolding(mp_cursor::specs::Parsers::expect, mp_cursor::specs::Parsers::repeated, mp_cursor::specs::Parsers::repeated_series, crate::specs::Statements::further_statement, crate::specs::Statements::further_arm))]
+
 ghost use Rattle.std.specs.Prelude.{◌≡◌, ◌<◌, [], ◌∷◌};
 ghost use Rattle.mp_cursor.specs.Parsers.{Reads};
 ghost use Rattle.mp_parse_stmt.specs.Statements as spec;
@@ -16,7 +18,6 @@ use std::alloc::Global;
 // ---- what has statements in it
 
 #[cycle(statements)]
-#[tactic(auto, using(mp_cursor::proofs::LoopLemmas::loop_more, mp_cursor::proofs::LoopLemmas::loop_done), unfolding(mp_cursor::specs::Parsers::expect, mp_cursor::specs::Parsers::repeated, crate::specs::Statements::further_statement))]
 fn further_statements(
     alloc: Global,
     tokens: &mut Cursor<'_>,
@@ -79,7 +80,6 @@ fn arm(alloc: Global, tokens: &mut Cursor<'_>, room: usize) -> Result<Arm<Statem
 }
 
 #[cycle(statements)]
-#[tactic(auto, using(mp_cursor::proofs::LoopLemmas::series_more, mp_cursor::proofs::LoopLemmas::series_done), unfolding(mp_cursor::specs::Parsers::expect, mp_cursor::specs::Parsers::repeated_series, crate::specs::Statements::further_arm))]
 fn further_arms(
     alloc: Global,
     tokens: &mut Cursor<'_>,
