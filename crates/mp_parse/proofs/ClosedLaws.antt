@@ -6,7 +6,7 @@ use Rattle.mp_ast.specs.declared.tokens.TokenKind.TheVariants as kind
 use Rattle.mp_ast.specs.declared.words.WordSymbol.TheVariants as w
 use Rattle.mp_ast.specs.declared.blocks.ProgramHeading.{ProgramHeading}
 use Rattle.mp_ast.specs.declared.blocks.Tree.{Tree}
-use Rattle.mp_ast.specs.Rules.{Input, Rule, gives, token, ◌>>=◌, ◌<|>◌, many}
+use Rattle.mp_ast.specs.Rules.{Input, Rule, gives, token, ◌>>=◌}
 use Rattle.mp_ast.specs.Rules as rule
 use Rattle.mp_ast.specs.BlockGrammar as g
 use Rattle.mp_ast.specs.BlockGrammar.{Limits}

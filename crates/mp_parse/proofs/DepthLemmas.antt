@@ -1,5 +1,5 @@
 -- What stands one block deeper, for the code that has tested that it may.
-use Rattle.std.proofs.Common.{◌≡◌, ℕ, zero, suc, ◌-◌, ◌<◌, ◌≤◌, Option, None, refl, sym, ap, ◌∙◌, arith}
+use Rattle.std.proofs.Common.{◌≡◌, ℕ, zero, suc, ◌-◌, ◌<◌, ◌≤◌, None, refl, ap, ◌∙◌, arith}
 use Rattle.mp_ast.specs.declared.blocks.Tree.{Tree}
 use Rattle.mp_ast.specs.Rules.{Input}
 use Rattle.mp_ast.specs.BlockGrammar.{Limits}

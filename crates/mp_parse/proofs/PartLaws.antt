@@ -66,7 +66,6 @@ block_begins = among (Word w.Label ∷ Word w.Const ∷ Word w.«Type» ∷ Word
 -- ---- labels
 
 law_some_labels : Law true (is next.Number) (is (Symbol s.Semicolon)) p.some_labels (rule.separated (rule.symbol s.Comma) leaf.number)
-unfolding p.some_labels p.further_label
 law_some_labels = law_separated (kind.Symbol s.Comma) (symbol_only s.Comma) (is (Symbol s.Semicolon)) law_number refl refl refl
 
 law_label_part : Law true (is (Word w.Label)) any p.label_part g.label_part

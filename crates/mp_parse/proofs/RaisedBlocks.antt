@@ -27,7 +27,7 @@ use Rattle.mp_parse.proofs.RaisedStatements.{raised_sequence, behind_raises}
 
 module _ {Same Higher More : Type 0} {count : Counting} {G : Type 0} where
   raised_labels : Raises Same Higher More count G p.labels p.labels
-  unfolding p.labels p.label_part p.some_labels p.further_label
+  unfolding p.labels p.label_part
   raised_labels =
       raised_branch (is (Word w.Label)) (raised_then (raised_expect _) (λ z.
       raised_then (raised_then raised_number (λ first. raised_repeated _ _ (λ found. raised_map _ (raised_then (raised_expect _) (λ at. raised_number))))) (λ labels.

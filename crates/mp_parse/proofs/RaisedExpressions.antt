@@ -77,7 +77,7 @@ module _ {Same Higher More : Type 0} {count : Counting} (room high : ℕ) (b c :
   -- ---- actual parameters
 
   raised_actual : Raises Same Higher More count (Behind Same Higher room high) (p.actual room b) (p.actual high c)
-  unfolding p.actual p.optional_width p.width
+  unfolding p.actual p.width
   raised_actual =
       raised_then d.expression (λ value. raised_then (raised_optional (is (Symbol s.Colon))
       (raised_then (raised_expect _) (λ at. raised_then d.expression (λ value. raised_pure)))) (λ width. raised_pure))

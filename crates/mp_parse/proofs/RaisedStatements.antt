@@ -45,7 +45,6 @@ module _ {Same Higher More : Type 0} {count : Counting} where
         raised_then a (λ first. raised_then raised_direction (λ way. raised_then a (λ last. raised_pure)))))
 
     raised_records : {a b : Parser (Access Expr)} → Raises Same Higher More count G a b → Raises Same Higher More count G (p.records a) (p.records b)
-    unfolding p.records p.further_record
     raised_records a = raised_then a (λ first. raised_repeated _ _ (λ found. raised_map _ (raised_then (raised_expect _) (λ at. a))))
 
     -- ---- what has statements in it

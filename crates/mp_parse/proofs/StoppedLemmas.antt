@@ -1,6 +1,6 @@
 -- A statement part that stops behind its `begin` stops in what follows: that has fewer tokens than the part, and a failure
 -- is no place behind the tokens.
-use Rattle.std.proofs.Common.{◌≡◌, ◌⊎◌, inl, inr, ℕ, suc, ◌+◌, ◌<◌, Bool, true, false, List, [], ◌∷◌, length, Some, None, Ok, Err, refl, sym, ap, ◌∙◌, subst, arith}
+use Rattle.std.proofs.Common.{◌≡◌, ◌⊎◌, inl, inr, ℕ, suc, ◌+◌, ◌<◌, Bool, true, false, List, [], ◌∷◌, length, Some, None, Err, refl, sym, ap, ◌∙◌, subst, arith}
 use Rattle.std.proofs.lemmas.Bool.{lt-ltb}
 use Rattle.std.specs.Prelude.{if◌then◌else◌, nat_lt}
 use Rattle.mp_ast.specs.declared.tokens.TokenKind.{TokenKind}
@@ -20,7 +20,7 @@ use Rattle.mp_parse_stmt.specs.Statements.{sequence}
 use Rattle.mp_parse_stmt.specs.Statements as statements
 use Rattle.mp_parse_stmt.proofs.StatementLaws.{law_sequence_behind}
 use Rattle.mp_parse.specs.Blocks.{statement_part}
-use Rattle.mp_parse.specs.StoppedParts.{open_begin, tokens_from, StopsBehindItsBegin}
+use Rattle.mp_parse.specs.StoppedParts.{tokens_from, StopsBehindItsBegin}
 
 -- what follows `begin`
 abbrev part_end : ℕ → List Statement → Parser StatementPart

@@ -1,6 +1,6 @@
 -- What the parser makes a tree of is within the limits of a program: its parts fit together, and it has no more tokens
 -- than the text and no more declarations than a program may have.
-use Rattle.std.proofs.Common.{◌≡◌, ℕ, ◌+◌, ◌≤◌, List, length, Option, Some, ap, ◌∙◌, refl, arith}
+use Rattle.std.proofs.Common.{◌≡◌, ℕ, ◌+◌, ◌≤◌, List, length, Option, Some, ap, ◌∙◌, arith}
 use Rattle.mp_base.specs.declared.limits.TheConstants.{TEXT_LIMIT}
 use Rattle.mp_ast.specs.declared.symbols.Symbol.TheVariants as s
 use Rattle.mp_ast.specs.declared.blocks.Block.{Block}

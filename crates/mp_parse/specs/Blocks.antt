@@ -21,7 +21,7 @@ use Rattle.mp_cursor.specs.declared.next.Next.TheVariants as next
 use Rattle.mp_cursor.specs.declared.next.Next.TheVariants.{Word, Symbol}
 use Rattle.mp_cursor.specs.Nexts.{Nexts, is, among}
 use Rattle.mp_cursor.specs.Parsers.{Parser, ◌>>=◌, ◌>>◌, ◌<$>◌, pure, refuse, branch, here, expect, opening, counted, deeper, identifier, number}
-use Rattle.mp_cursor.specs.Parsers.{directive, repeated, and_one, with_own_ordinals}
+use Rattle.mp_cursor.specs.Parsers.{directive, repeated, and_one, separated, with_own_ordinals}
 use Rattle.mp_cursor.specs.Leaves.{identifiers, constant}
 use Rattle.mp_parse_type.specs.Types.{denoter, section}
 use Rattle.mp_parse_type.specs.Headings.{heading}
@@ -30,16 +30,9 @@ use Rattle.mp_parse_stmt.specs.Statements as statements
 
 -- ---- the parts of a block
 
-unfoldable pub further_label : List Number → Parser (List Number)
-further_label = and_one (expect (Symbol s.Comma) >> number)
-
-abbrev pub further_labels : List Number → Parser (List Number)
-further_labels = repeated (is (Symbol s.Comma)) further_label
-
-unfoldable pub some_labels : Parser (List Number)
-some_labels = do
-  first ← number
-  further_labels (first ∷ [])
+-- labels with commas between them
+abbrev pub some_labels : Parser (List Number)
+some_labels = separated (Symbol s.Comma) number
 
 unfoldable pub label_part : Parser (List Number)
 label_part = do

@@ -1,3 +1,5 @@
+#![tactic(auto, using(mp_cursor::proofs::LoopLemmas::loop_more, mp_cursor::proofs::LoopLemmas::loop_done), unfolding(mp_cursor::specs::Parsers::repeated, crate::specs::Blocks::declarations))]
+
 ghost use Rattle.std.specs.Prelude.{◌≡◌, ◌+◌, ◌<◌, ◌≤◌, [], ◌∷◌, IfOk, length};
 ghost use Rattle.mp_ast.specs.Programs.{standard};
 ghost use Rattle.mp_cursor.specs.Parsers.{Reads};
@@ -107,7 +109,6 @@ fn is_declaring(next: Next) -> bool
 }
 
 #[cycle(blocks)]
-#[tactic(auto, using(mp_cursor::proofs::LoopLemmas::loop_more, mp_cursor::proofs::LoopLemmas::loop_done), unfolding(mp_cursor::specs::Parsers::repeated, crate::specs::Blocks::declarations))]
 fn declarations(alloc: Global, tokens: &mut Cursor<'_>, depth: usize) -> Result<Found, Failure>
     ensures { Reads (spec.declarations standard depth (spec.nested_block standard depth) tokens.old) result tokens.new }
 {

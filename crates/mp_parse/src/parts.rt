@@ -1,14 +1,14 @@
-#![tactic(auto, using(mp_cursor::proofs::LoopLemmas::loop_more, mp_cursor::proofs::LoopLemmas::loop_done), unfolding(mp_cursor::specs::Parsers::repeated, crate::specs::Blocks::further_label, crate::specs::Blocks::further_constant, crate::specs::Blocks::further_type, crate::specs::Blocks::further_section))]
+#![tactic(auto, using(mp_cursor::proofs::LoopLemmas::loop_more, mp_cursor::proofs::LoopLemmas::loop_done), unfolding(mp_cursor::specs::Parsers::repeated, crate::specs::Blocks::further_constant, crate::specs::Blocks::further_type, crate::specs::Blocks::further_section))]
 
 ghost use Rattle.std.specs.Prelude.{◌≡◌, [], ◌∷◌};
-ghost use Rattle.mp_cursor.specs.Parsers.{Reads};
+ghost use Rattle.mp_cursor.specs.Parsers.{Reads, number};
 ghost use Rattle.mp_parse.specs.Blocks as spec;
 
 use mp_ast::{
     ConstantDefinition, Denoter, Number, Section, StatementPart, Symbol, TypeDefinition, WordSymbol,
 };
 use mp_base::OPENER_LIMIT;
-use mp_cursor::{Cursor, Failure, Next, constant, single};
+use mp_cursor::{Cursor, Failure, Next, Production, constant, separated, single};
 use mp_parse_stmt::sequence;
 use mp_parse_type::{denoter, section};
 use sqlite_items::{Boxed, Items};
@@ -16,27 +16,17 @@ use std::alloc::Global;
 
 // ---- labels
 
-fn further_labels(tokens: &mut Cursor<'_>, first: Items<Number>) -> Result<Items<Number>, Failure>
-    ensures { Reads (spec.further_labels first tokens.old) result tokens.new }
-{
-    let mut found = first;
-    'labels: for _turn in 0..tokens.left() {
-        if !tokens.sees(Next::Symbol(Symbol::Comma)) {
-            return Ok(found);
-        }
-        tokens.expect(Next::Symbol(Symbol::Comma))?;
-        found.push(tokens.number()?)?;
-    }
-    Ok(found)
-}
+#[derive(Drop)]
+struct Label;
 
-#[tactic(auto, unfolding(crate::specs::Blocks::some_labels))]
-fn some_labels(alloc: Global, tokens: &mut Cursor<'_>) -> Result<Items<Number>, Failure>
-    ensures { Reads (spec.some_labels tokens.old) result tokens.new }
-{
-    let first = tokens.number()?;
-    let found = single(alloc, first)?;
-    further_labels(tokens, found)
+impl Production for Label {
+    type Item = Number;
+
+    ghost parser = { λ _. number };
+
+    fn read(&self, tokens: &mut Cursor<'_>) -> Result<Number, Failure> {
+        tokens.number()
+    }
 }
 
 #[tactic(auto, unfolding(crate::specs::Blocks::label_part))]
@@ -44,7 +34,7 @@ fn label_part(alloc: Global, tokens: &mut Cursor<'_>) -> Result<Items<Number>, F
     ensures { Reads (spec.label_part tokens.old) result tokens.new }
 {
     tokens.expect(Next::Word(WordSymbol::Label))?;
-    let found = some_labels(alloc, tokens)?;
+    let found = separated(alloc, tokens, Symbol::Comma, &Label)?;
     tokens.expect(Next::Symbol(Symbol::Semicolon))?;
     Ok(found)
 }

@@ -11,4 +11,4 @@ new-requires-3 c =
     ap (λ n. record c.in_ok-own.own { tokens = n }) c.at.ensures.at in
     subst (λ b. IsOfAProgram (node b c.in_ok-own.inside)) (sym own)
     (program_within _ _ _ c.expect.new.self c.in_ok-heading.heading c.in_ok-own.own c.in_ok-own.inside c.in_ok-expect.field-0
-    c.in_ok-heading.ensures c.in_ok-own.ensures.reads c.in_ok-expect.ensures c.requires)
+    c.in_ok-heading.ensures c.in_ok-own.ensures.reads c.in_ok-expect.ensures.reads c.requires)
