@@ -1,8 +1,8 @@
-ghost use Rattle.std.specs.Prelude.{◌≡◌, ◌∷◌, ◌++◌, [], IfOk, IfErr, OnOk, OnErr, Some, None, length};
+ghost use Rattle.std.specs.Prelude.{◌≡◌, ◌∷◌, ◌++◌, [], IfOk, IfErr, IsTrue, OnOk, OnErr, Some, None, false, length};
 ghost use Rattle.mp_files.specs.declared.items.Item.TheVariants.{Character, LineEnd};
 ghost use Rattle.mp_files.specs.Items.{bytes_of, characters, items_of};
-ghost use Rattle.mp_files.specs.TextFiles.{Gives, contents, eof, eoln, get, page_items, read_line, read_number, shown};
-ghost use Rattle.mp_files.specs.RunFiles.{IsDue, IsGiven, after_reset, after_rewrite, after_writing, fault_of, file_at, starting, with_file, with_new_file, write_refusal};
+ghost use Rattle.mp_files.specs.TextFiles.{Gives, contents, eof, eoln, get, is_unfinished, page_items, read_line, read_number, shown};
+ghost use Rattle.mp_files.specs.RunFiles.{IsDue, IsGiven, after_reset, after_rewrite, after_writing, fault_of, file_at, is_required, starting, with_file, with_new_file, write_refusal};
 
 use crate::causes::{FILE_BYTES, FileEnd, WRONG_STATE};
 use crate::stored_file::StoredFile;
@@ -89,11 +89,13 @@ impl Files {
     }
 
     /// Puts the file in reading from its start, its last line ended (ISO 7185, 6.6.5.2); `input` and `output` stay as
-    /// they are.
+    /// they are. It takes memory only to end the last line of another file, where that has no line end.
     pub fn reset(&mut self, number: u64) -> Result<(), FileEnd>
         requires { IsGiven self.old number }
         ensures ok { OnOk result (self.new ≡ after_reset number self.old) }
         ensures memory { IfErr result (λ e. e ≡ FileEnd.Memory) }
+        ensures required { OnErr result (is_required number ≡ false) }
+        ensures unfinished { OnErr result (IsTrue (is_unfinished (contents (file_at self.old number)))) }
         ensures unchanged { OnErr result (self.new ≡ self.old) }
     {
         if number < 2 {

@@ -205,6 +205,7 @@ impl StoredFile {
 
     pub(crate) fn reset(&mut self) -> Result<(), Memory>
         ensures ok { OnOk result (self.new ≡ reset self.old) }
+        ensures unfinished { OnErr result (IsTrue (is_unfinished (contents self.old))) }
         ensures err { OnErr result (self.new ≡ self.old) }
     {
         if is_unfinished(&self.items) {

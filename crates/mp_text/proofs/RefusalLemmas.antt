@@ -1,5 +1,6 @@
 -- The refusals of an edit, one after another.
-use Rattle.std.proofs.Common.{◌≡◌, ◌≤◌, ◌<◌, ◌+◌, ◌-◌, ℕ, suc, List, [], ◌∷◌, ◌++◌, length, take, drop, true, false, nat_le, nat_lt, Option, None, Some, refl, ap, sym, ◌∙◌, arith}
+use Rattle.std.proofs.Common.{◌≡◌, ◌≤◌, ◌<◌, ◌+◌, ◌-◌, ℕ, suc, List, [], ◌∷◌, ◌++◌, length, take, drop, true, false, nat_le, nat_lt, Bool, ◌&&◌, Option, None, Some, refl, ap, sym, subst, ◌∙◌, arith}
+use Rattle.std.specs.Bool.{⊤}
 use Rattle.std.proofs.lemmas.List.{length-append, length-take, length-drop}
 use Rattle.std.proofs.lemmas.Bool.{le-leb, lt-leb}
 use Rattle.std.specs.List.{position_from}
@@ -7,7 +8,7 @@ use Rattle.std.specs.Option.{option_map}
 use Rattle.mp_base.specs.declared.limits.TheConstants.{TEXT_LIMIT, VERSION_LIMIT}
 use Rattle.mp_base.specs.Text.{bytes_of}
 use Rattle.mp_text.specs.Edits.{edited, new_lines, substituted, line_at}
-use Rattle.mp_text.specs.Refusals.{IsDue, refusal, back_refusal, first_of, is_long, out_of_range, line_long, too_long, unless}
+use Rattle.mp_text.specs.Refusals.{IsDue, refusal, back_refusal, first_of, is_long, out_of_range, line_long, no_version, too_long, unless, versions_full}
 use Rattle.mp_text.specs.Versions.{stands, version_at}
 use Rattle.mp_text.specs.declared.edits.Edit.{Edit}
 use Rattle.mp_text.specs.declared.edits.Edit.TheVariants as edit
@@ -23,14 +24,91 @@ pub refused_version : (versions : List (List (List ℕ))) (base : ℕ) (e : Edit
 unfolding refusal
 refused_version versions base e h q = let p : nat_lt (length versions) VERSION_LIMIT ≡ true = le-leb (suc (length versions)) VERSION_LIMIT (omega arith) in rw (p, q) refl
 
--- an error that is the refusal is due
-pub due : (refused : Option TextError) (e : TextError) → refused ≡ Some e → IsDue e refused
-due refused error.NoVersion h = h
-due refused (error.Range last) h = h
-due refused (error.TooLong bytes) h = h
-due refused (error.LineLong line) h = h
-due refused error.VersionsFull h = h
-due refused error.Memory h = tt
+-- a refusal is never want of memory
+unfoldable IsNotMemory : Option TextError → Type 0
+IsNotMemory None = ⊤
+IsNotMemory (Some error.NoVersion) = ⊤
+IsNotMemory (Some (error.Range last)) = ⊤
+IsNotMemory (Some (error.TooLong bytes)) = ⊤
+IsNotMemory (Some (error.LineLong line)) = ⊤
+IsNotMemory (Some error.VersionsFull) = ⊤
+IsNotMemory (Some error.Memory) = ⊥
+
+unless_told : (test : Bool) (e : TextError) → IsNotMemory (Some e) → IsNotMemory (unless test e)
+unfolding IsNotMemory
+unless_told true e h = tt
+unless_told false e h = h
+
+none_told : IsNotMemory None
+unfolding IsNotMemory
+none_told = tt
+
+range_error : (last : ℕ) → IsNotMemory (Some (error.Range last))
+unfolding IsNotMemory
+range_error last = tt
+
+full_error : IsNotMemory (Some error.VersionsFull)
+unfolding IsNotMemory
+full_error = tt
+
+version_error : IsNotMemory (Some error.NoVersion)
+unfolding IsNotMemory
+version_error = tt
+
+size_error : (bytes : ℕ) → IsNotMemory (Some (error.TooLong bytes))
+unfolding IsNotMemory
+size_error bytes = tt
+
+first_told : (r : Option TextError) (rest : List (Option TextError)) → IsNotMemory r → IsNotMemory (first_of rest) → IsNotMemory (first_of (r ∷ rest))
+first_told None rest h k = k
+first_told (Some e) rest h k = h
+
+long_told : (line : Option ℕ) → IsNotMemory (option_map (λ n. error.LineLong n) line)
+unfolding IsNotMemory
+long_told None = tt
+long_told (Some n) = tt
+
+ranges_told : (a b c : Bool) (x y z : ℕ) → IsNotMemory (first_of (unless a (error.Range x) ∷ unless b (error.Range y) ∷ unless c (error.Range z) ∷ []))
+unfolding IsNotMemory
+ranges_told false b c x y z = tt
+ranges_told true false c x y z = tt
+ranges_told true true false x y z = tt
+ranges_told true true true x y z = tt
+
+range_told : (e : Edit) (text : List (List ℕ)) → IsNotMemory (out_of_range e text)
+unfolding out_of_range
+range_told (edit.Insert after lines) text = unless_told _ _ (range_error (length text))
+range_told (edit.Delete first last) text = unless_told _ _ (range_error (length text))
+range_told (edit.Replace first last lines) text = unless_told _ _ (range_error (length text))
+range_told (edit.Sub line column count bytes) text =
+    let columns = length (line_at text line) + 1 in
+    let is_line = nat_le 1 line && nat_le line (length text) in
+    let is_column = nat_le 1 column && nat_le column columns in
+    ranges_told is_line is_column (nat_le count (columns - column)) (length text) columns (columns - column)
+
+refusal_told : (versions : List (List (List ℕ))) (base : ℕ) (e : Edit) → IsNotMemory (refusal versions base e)
+unfolding refusal
+refusal_told versions base e =
+    let text = version_at versions base in
+    let made = edited e text in
+    let size = first_told (too_long made) [] (unless_told _ _ (size_error _)) none_told in
+    let long = first_told (line_long made) _ (long_told (position_from is_long 1 made)) size in
+    let range = first_told (out_of_range e text) _ (range_told e text) long in
+    let version = first_told (no_version versions base) _ (unless_told _ _ version_error) range in
+    first_told (versions_full versions) _ (unless_told _ _ full_error) version
+
+-- an error that is the refusal of an edit is due
+due_told : (refused : Option TextError) (e : TextError) → IsNotMemory refused → refused ≡ Some e → IsDue e refused
+unfolding IsNotMemory
+due_told refused error.NoVersion n h = h
+due_told refused (error.Range last) n h = h
+due_told refused (error.TooLong bytes) n h = h
+due_told refused (error.LineLong line) n h = h
+due_told refused error.VersionsFull n h = h
+due_told refused error.Memory n h = absurd (subst IsNotMemory h n)
+
+pub due : (versions : List (List (List ℕ))) (base : ℕ) (edit : Edit) (e : TextError) → refusal versions base edit ≡ Some e → IsDue e (refusal versions base edit)
+due versions base edit e h = due_told _ e (refusal_told versions base edit) h
 
 -- where there is room and the version stands, the edit's own numbers and the new text decide
 refused_later : (versions : List (List (List ℕ))) (base : ℕ) (e : Edit) → length versions < VERSION_LIMIT → stands versions base ≡ true →
