@@ -23,7 +23,10 @@ find-none : {X : Type 0} (p : X → Bool) (xs : List X) (x : X) → find p xs �
 find-none p [] x e k h = omega (arith, k.1)
 find-none {X} p (y ∷ xs) x e k h = by (p y) refl e k.0 k.1 k.2 (find-none p xs x)
   where
-    by : (t : Bool) → p y ≡ t → cond t (Some y) (find p xs) ≡ None → (i : ℕ) → i < length (y ∷ xs) → slice_index_or (y ∷ xs) i x ≡ x → (find p xs ≡ None → Contains xs x → p x ≡ true → ⊥) → ⊥
+    by :
+        (t : Bool) → p y ≡ t → cond t (Some y) (find p xs) ≡ None →
+        (i : ℕ) → i < length (y ∷ xs) → slice_index_or (y ∷ xs) i x ≡ x →
+        (find p xs ≡ None → Contains xs x → p x ≡ true → ⊥) → ⊥
     by true g f i l q next = absurd cc
     by false g f zero l q next = true_false (sym h ∙ ap p (sym q) ∙ g)
     by false g f (suc i) l q next = next f (i, omega arith, q) h

@@ -1,10 +1,39 @@
 -- A saturated sum is the exact sum, saturated once: what holds of sizes and offsets follows from the exact sums.
-use Rattle.std.proofs.Common.{◌≡◌, ℕ, ◌+◌, ◌*◌, ◌<◌, ◌≤◌, zero, suc, List, [], ◌∷◌, ◌++◌, length, get_or, take, drop, refl, sym, ap, ◌∙◌, subst, arith, append_assoc, length-append}
+use Rattle.std.proofs.Common.{
+  ◌≡◌,
+  ℕ,
+  ◌+◌,
+  ◌*◌,
+  ◌<◌,
+  ◌≤◌,
+  zero,
+  suc,
+  List,
+  [],
+  ◌∷◌,
+  ◌++◌,
+  length,
+  get_or,
+  take,
+  drop,
+  Some,
+  replicate,
+  refl,
+  sym,
+  ap,
+  ◌∙◌,
+  subst,
+  arith,
+  append_assoc,
+  length-append,
+}
 use Rattle.std.proofs.lemmas.List.{take-take}
+use Rattle.std.proofs.lemmas.List.Folds.{sum_by-replicate}
 use Rattle.std.proofs.lemmas.List.Sums.{sum_by-cons, sum_by-append, sum_by-take-le, sum_by_more}
 use Rattle.std.specs.List.{sum}
 use Rattle.mp_base.specs.declared.limits.TheConstants.{CELL_LIMIT}
-use Rattle.mp_tables.specs.Sizes.{saturated, sum_of, offsets, offsets_from}
+use Rattle.mp_tables.specs.declared.types.Bounds.{Bounds}
+use Rattle.mp_tables.specs.Sizes.{array_cells, saturated, sum_of, offsets, offsets_from, values_in}
 use Rattle.mp_layout.specs.Laws.{EachOffsetIsTheSumBefore, OffsetsAscend, PartsStandApart, PartsStandWithin}
 
 sum-cons : (n : ℕ) (sizes : List ℕ) → sum (n ∷ sizes) ≡ n + sum sizes
@@ -38,6 +67,11 @@ sum_of-append xs ys =
     let parts = ap (λ k. saturated (k + sum_of ys)) (sum_of-sum xs) ∙ ap (λ k. saturated (saturated (sum xs) + k)) (sum_of-sum ys) in
     whole ∙ sym (saturated-inner (sum xs) (sum ys)) ∙ sym (saturated-outer (sum xs) (saturated (sum ys))) ∙ sym parts
 
+-- ---- arrays
+
+pub array_cells-sum : (b : Bounds) (n : ℕ) → array_cells (Some b) n ≡ sum_of (replicate (values_in b) n)
+array_cells-sum b n = sym (sum_of-sum (replicate (values_in b) n) ∙ ap saturated (sum_by-replicate (λ x. x) (values_in b) n))
+
 -- ---- offsets
 
 pub length-offsets_from : (start : ℕ) (sizes : List ℕ) → length (offsets_from start sizes) ≡ length sizes
@@ -47,7 +81,9 @@ length-offsets_from start (n ∷ sizes) = ap suc (length-offsets_from (saturated
 pub length-offsets : (sizes : List ℕ) → length (offsets sizes) ≡ length sizes
 length-offsets sizes = length-offsets_from 0 sizes
 
-pub get_or-offsets_from : (start : ℕ) (sizes : List ℕ) (at : ℕ) → start ≤ CELL_LIMIT + 1 → at < length sizes → get_or (offsets_from start sizes) at 0 ≡ saturated (start + sum (take at sizes))
+pub get_or-offsets_from :
+    (start : ℕ) (sizes : List ℕ) (at : ℕ) → start ≤ CELL_LIMIT + 1 → at < length sizes →
+    get_or (offsets_from start sizes) at 0 ≡ saturated (start + sum (take at sizes))
 get_or-offsets_from start [] at s h = absurd (omega arith)
 get_or-offsets_from start (n ∷ sizes) zero s h = omega arith
 get_or-offsets_from start (n ∷ sizes) (suc at) s h =
@@ -58,7 +94,9 @@ get_or-offsets_from start (n ∷ sizes) (suc at) s h =
 pub offset_is : (sizes : List ℕ) → EachOffsetIsTheSumBefore sizes
 offset_is sizes at h = get_or-offsets_from 0 sizes at (omega arith) h ∙ ap saturated (omega arith)
 
-pub offsets_from-append : (start : ℕ) (sizes : List ℕ) (n : ℕ) → start ≤ CELL_LIMIT + 1 → offsets_from start (sizes ++ n ∷ []) ≡ offsets_from start sizes ++ saturated (start + sum_of sizes) ∷ []
+pub offsets_from-append :
+    (start : ℕ) (sizes : List ℕ) (n : ℕ) → start ≤ CELL_LIMIT + 1 →
+    offsets_from start (sizes ++ n ∷ []) ≡ offsets_from start sizes ++ saturated (start + sum_of sizes) ∷ []
 offsets_from-append start [] n s = ap (λ k. k ∷ []) (omega arith)
 offsets_from-append start (m ∷ sizes) n s =
     ap (λ l. start ∷ l) (offsets_from-append (saturated (start + m)) sizes n (omega arith))
@@ -77,7 +115,14 @@ ascend sizes i j h w = omega (arith, offset_is sizes i (omega arith), offset_is 
 
 pub apart : (sizes : List ℕ) → sum sizes ≤ CELL_LIMIT → PartsStandApart sizes
 apart sizes s i j h w =
-    omega (arith, offset_is sizes i (omega arith), offset_is sizes j w, sum_by_more (λ x. x) sizes i 0 (omega arith), sum_take-le sizes (i + 1) j (omega arith), sum_by-take-le (λ x. x) sizes j)
+    omega (
+      arith,
+      offset_is sizes i (omega arith),
+      offset_is sizes j w,
+      sum_by_more (λ x. x) sizes i 0 (omega arith),
+      sum_take-le sizes (i + 1) j (omega arith),
+      sum_by-take-le (λ x. x) sizes j,
+    )
 
 pub within : (sizes : List ℕ) → sum sizes ≤ CELL_LIMIT → PartsStandWithin sizes
 within sizes s i w =

@@ -14,7 +14,11 @@ pub values-difference : (low high : ℤ) → int_le low high ≡ true → nat_ab
 values-difference low high e = grind (arith, ints)
 
 -- the difference of the bounds is taken without sign, and one is added where it fits
-pub saturated-values : (b : Bounds) (low high : ℤ) (difference sum : ℕ) → low ≡ b.low → high ≡ b.high → int_le low high ≡ true → difference ≡ nat_abs (high -ℤ low) → sum ≡ min (difference + 1) (2 ^ 64 - 1) → saturated sum ≡ saturated (values_in b)
+pub saturated-values :
+    (b : Bounds) (low high : ℤ) (difference sum : ℕ) →
+    low ≡ b.low → high ≡ b.high → int_le low high ≡ true →
+    difference ≡ nat_abs (high -ℤ low) → sum ≡ min (difference + 1) (2 ^ 64 - 1) →
+    saturated sum ≡ saturated (values_in b)
 saturated-values b low high difference sum l h t d s =
     let t' : int_le b.low b.high ≡ true = ap (λ z. int_le z b.high) (sym l) ∙ ap (int_le low) (sym h) ∙ t in
     let d' : difference ≡ nat_abs (b.high -ℤ b.low) = d ∙ ap (λ z. nat_abs (z -ℤ low)) h ∙ ap (λ z. nat_abs (b.high -ℤ z)) l in

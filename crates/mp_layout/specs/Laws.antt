@@ -1,11 +1,11 @@
 -- What holds of sizes, offsets and fields.
-use Rattle.std.specs.Prelude.{◌≡◌, ℕ, ◌+◌, ◌<◌, ◌≤◌, ◌+ℤ◌, pos, int_le, true, false, List, length, sum, take, slice_index, Contains, Some}
+use Rattle.std.specs.Prelude.{◌≡◌, ℕ, ◌+◌, ◌<◌, ◌≤◌, ◌+ℤ◌, pos, int_le, true, false, List, length, sum, take, slice_index, Contains, Some, replicate}
 use Rattle.mp_tables.specs.declared.types.Bounds.{Bounds}
 use Rattle.mp_tables.specs.declared.types.RecordShape.{RecordShape}
 use Rattle.mp_tables.specs.declared.types.Slot.{Slot}
 use Rattle.mp_tables.specs.declared.types.Shape.{Shape}
 use Rattle.mp_tables.specs.declared.types.Shape.TheVariants as shape
-use Rattle.mp_tables.specs.Sizes.{offsets, saturated, sum_of, values_in}
+use Rattle.mp_tables.specs.Sizes.{array_cells, offsets, saturated, sum_of, values_in}
 
 -- each offset is the sum of the sizes before it, saturated
 abbrev pub EachOffsetIsTheSumBefore : List ℕ → Type 0
@@ -25,6 +25,10 @@ PartsStandWithin sizes = (i : ℕ) → i < length sizes → slice_index (offsets
 -- behind the least value so many are counted up to the greatest; from a greater one to a less there are none
 abbrev pub CountsValues : Bounds → Type 0
 CountsValues b = (int_le b.low b.high ≡ true → b.low +ℤ pos (values_in b) ≡ b.high +ℤ pos 1) × (int_le b.low b.high ≡ false → values_in b ≡ 0)
+
+-- an array has the cells of its components, one for each value of its index
+abbrev pub ArraysAreTheirComponents : Type 0
+ArraysAreTheirComponents = (b : Bounds) (n : ℕ) → array_cells (Some b) n ≡ sum_of (replicate (values_in b) n)
 
 -- the type is a record with a field of this name, which stands there
 abbrev pub HasFieldAt : List ℕ → Shape → ℕ → Type 0

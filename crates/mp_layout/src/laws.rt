@@ -1,11 +1,15 @@
 // What the definitions of sizes promise: each function's contract is one law of them.
-ghost use Rattle.std.specs.Prelude.{◌≡◌, ◌+◌, ◌<◌, ◌≤◌, ◌++◌, ◌∷◌, [], ℕ, List, Some, None, length, sum};
+ghost use Rattle.std.specs.Prelude.{◌≡◌, ◌+◌, ◌<◌, ◌≤◌, ◌++◌, ◌∷◌, [], ℕ, Bool, List, Option, Some, None, length, sum};
 ghost use Rattle.mp_base.specs.declared.limits.TheConstants.{CELL_LIMIT};
 ghost use Rattle.mp_tables.specs.declared.types.Bounds.{Bounds};
+ghost use Rattle.mp_tables.specs.declared.types.ArrayShape.{ArrayShape};
+ghost use Rattle.mp_tables.specs.declared.types.RecordShape.{RecordShape};
+ghost use Rattle.mp_tables.specs.declared.types.TypeId.{TypeId};
+ghost use Rattle.mp_tables.specs.declared.types.Shape.TheVariants as shapes;
 ghost use Rattle.mp_tables.specs.declared.types.Shape.{Shape};
-ghost use Rattle.mp_tables.specs.Sizes.{offsets, saturated, sum_of};
+ghost use Rattle.mp_tables.specs.Sizes.{cells_of, offsets, saturated, sum_of};
 ghost use Rattle.mp_layout.specs.Layouts.{offset_of};
-ghost use Rattle.mp_layout.specs.Laws.{EachOffsetIsTheSumBefore, OffsetsAscend, PartsStandApart, PartsStandWithin, CountsValues, HasFieldAt};
+ghost use Rattle.mp_layout.specs.Laws.{ArraysAreTheirComponents, EachOffsetIsTheSumBefore, OffsetsAscend, PartsStandApart, PartsStandWithin, CountsValues, HasFieldAt};
 
 /// What is counted is the sum of the sizes, or one more than the limit where that is passed.
 pub fn what_is_counted_is_the_sum()
@@ -34,6 +38,24 @@ pub fn what_is_added_stands_behind()
 pub fn parts_stand_apart()
     ensures apart { (sizes : List ℕ) → sum sizes ≤ CELL_LIMIT → PartsStandApart sizes }
     ensures within { (sizes : List ℕ) → sum sizes ≤ CELL_LIMIT → PartsStandWithin sizes }
+{}
+
+/// An array has the cells of its components, one for each value of its index type (ISO 7185, 6.4.3.2).
+pub fn arrays_are_their_components()
+    ensures { ArraysAreTheirComponents }
+{}
+
+/// A scalar, a set and a pointer have one cell. A text file has two: the file and its buffer. A character-string has one a
+/// character. An array and a record have what was counted of their parts.
+pub fn types_have_cells()
+    ensures range { (values : Bounds) → cells_of (shapes.Range values) ≡ 1 }
+    ensures enumeration { (names : List (List ℕ)) → cells_of (shapes.Names names) ≡ 1 }
+    ensures set { (packed : Option Bool) (base : Option Bounds) → cells_of (shapes.SetOf packed base) ≡ 1 }
+    ensures pointer { (domain : Option TypeId) → cells_of (shapes.Ptr domain) ≡ 1 }
+    ensures text { cells_of shapes.Text ≡ 2 }
+    ensures string { (n : ℕ) → cells_of (shapes.Str n) ≡ n }
+    ensures array { (a : ArrayShape) → cells_of (shapes.Arr a) ≡ a.cells }
+    ensures record_type { (r : RecordShape) → cells_of (shapes.Rec r) ≡ r.cells }
 {}
 
 /// The values of a type are those from the least to the greatest.

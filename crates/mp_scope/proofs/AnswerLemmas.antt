@@ -87,5 +87,7 @@ order_is_free tables others same =
       name = λ n place. seen_from-same tables others same.at (around_program (required_name n)) [] place.path place.ordinal n;
       shape = shape-same tables others same.at;
       heading = λ path. ap heading_or_none (nested_at-same tables others same.at [] path);
-      assigns = λ path. assigns_by-same tables others same.at same.any path (nested_at tables [] path) ∙ ap (assigns_by others path) (nested_at-same tables others same.at [] path);
+      assigns = λ path.
+          assigns_by-same tables others same.at same.any path (nested_at tables [] path)
+          ∙ ap (assigns_by others path) (nested_at-same tables others same.at [] path);
     }

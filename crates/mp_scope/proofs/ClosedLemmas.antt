@@ -17,7 +17,8 @@ use Rattle.mp_tables.specs.declared.tables.Nested.{Nested}
 use Rattle.mp_tables.specs.declared.tables.Shaped.{Shaped}
 use Rattle.mp_tables.specs.declared.tables.Table.{Table}
 use Rattle.mp_tables.specs.RequiredNames.{required_name}
-use Rattle.mp_tables.specs.Seen.{table_at, seen_entry, here, nested_in, semicolon_of, declared_or, seen_from, around_program, seen, shape_in, own_shape, shape_of, nested_at, heading_or_none, heading_of, state_of}
+use Rattle.mp_tables.specs.Seen.{table_at, seen_entry, here, nested_in, semicolon_of, declared_or, seen_from, around_program, seen}
+use Rattle.mp_tables.specs.Seen.{shape_in, own_shape, shape_of, nested_at, heading_or_none, heading_of, state_of}
 use Rattle.mp_tables.specs.Standing.{Types, Paths, DeclStands, SeenStands, ShapeStands, HeadingStands}
 use Rattle.mp_scope.specs.Kept.{StandsIn, Closed}
 
@@ -53,7 +54,10 @@ module _ (tables : List Table) (closed : Closed tables) where
   here_in : Option Table → ℕ → List ℕ → Option Seen
   here_in t at n = option_map (seen_entry at) (option_and_then (λ x. lookup (bytes_eq n) x.names) t)
 
-  entry_stands : (at : ℕ) (outer : Seen) (o : Option Entry) → SeenStands types paths outer → ((e : Entry) → o ≡ Some e → DeclStands types paths e.decl) → SeenStands types paths (declared_or outer (option_map (seen_entry at) o))
+  entry_stands :
+      (at : ℕ) (outer : Seen) (o : Option Entry) →
+      SeenStands types paths outer → ((e : Entry) → o ≡ Some e → DeclStands types paths e.decl) →
+      SeenStands types paths (declared_or outer (option_map (seen_entry at) o))
   entry_stands at outer None h own = h
   entry_stands at outer (Some e) h own = by (nat_lt e.last at)
     where
@@ -67,9 +71,13 @@ module _ (tables : List Table) (closed : Closed tables) where
     where
       by : (o : Option Table) → ((t : Table) → o ≡ Some t → StandsIn tables t) → SeenStands types paths (declared_or outer (here_in o at n))
       by None own = h
-      by (Some t) own = entry_stands at outer (lookup (bytes_eq n) t.names) h (λ e found. looked_has (λ e. DeclStands types paths e.decl) (bytes_eq n) t.names e (own t refl).names found)
+      by (Some t) own =
+          entry_stands at outer (lookup (bytes_eq n) t.names) h
+          (λ e found. looked_has (λ e. DeclStands types paths e.decl) (bytes_eq n) t.names e (own t refl).names found)
 
-  from_stands : (outer : Seen) (path inward : List PathStep) (at : ℕ) (n : List ℕ) → SeenStands types paths outer → SeenStands types paths (seen_from tables outer path inward at n)
+  from_stands :
+      (outer : Seen) (path inward : List PathStep) (at : ℕ) (n : List ℕ) →
+      SeenStands types paths outer → SeenStands types paths (seen_from tables outer path inward at n)
   from_stands outer path [] at n h = here_stands path at n outer h
   from_stands outer path (step ∷ inward) at n h =
       let semicolon = semicolon_of (nested_in tables path step) in
@@ -95,7 +103,9 @@ module _ (tables : List Table) (closed : Closed tables) where
     where
       by : (o : Option Table) → ((t : Table) → o ≡ Some t → StandsIn tables t) → ShapeStands types (unwrap_or (option_and_then (λ t. shape_in t.shapes at) o) (shape.Ptr None))
       by None own = tt
-      by (Some t) own = shaped_stands (find (λ x. nat_eq x.at at) t.shapes) (λ x found. found_has (λ s. ShapeStands types s.shape) (λ x. nat_eq x.at at) t.shapes x (own t refl).shapes found)
+      by (Some t) own =
+          shaped_stands (find (λ x. nat_eq x.at at) t.shapes)
+          (λ x found. found_has (λ s. ShapeStands types s.shape) (λ x. nat_eq x.at at) t.shapes x (own t refl).shapes found)
 
   pub shape_stands : (id : TypeId) → ShapeStands (state_of tables).stands (unwrap_or (shape_of tables id) (shape.Ptr None))
   unfolding types paths
@@ -121,7 +131,8 @@ module _ (tables : List Table) (closed : Closed tables) where
       by : (o : Option Table) → ((t : Table) → o ≡ Some t → StandsIn tables t) → HeadingStands types (heading_or_none (nested_of o step))
       by None own = (tt, tt)
       by (Some t) own =
-          heading_or_none_stands (find (λ y. same_step step y.step) t.nested) (λ x found. found_has (λ x. HeadingStands types x.heading) (λ y. same_step step y.step) t.nested x (own t refl).nested found)
+          heading_or_none_stands (find (λ y. same_step step y.step) t.nested)
+          (λ x found. found_has (λ x. HeadingStands types x.heading) (λ y. same_step step y.step) t.nested x (own t refl).nested found)
 
   nested_at_stands : (around inward : List PathStep) → HeadingStands types (heading_or_none (nested_at tables around inward))
   nested_at_stands around [] = (tt, tt)

@@ -17,7 +17,8 @@ use Rattle.mp_tables.specs.declared.declarations.Decl.TheVariants as decl
 use Rattle.mp_tables.specs.declared.tables.Nested.{Nested}
 use Rattle.mp_tables.specs.declared.tables.Table.{Table}
 use Rattle.mp_tables.specs.Seen.{table_at, nested_in, nested_at, shape_of, path_stands, state_of}
-use Rattle.mp_tables.specs.Standing.{Types, Paths, PathIfStands, TypeStands, TypeIfStands, BoundsStand, ShapeStands, HeadingStands, HeadingIfStands, ConstantStands, DeclStands, TableStands}
+use Rattle.mp_tables.specs.Standing.{Types, Paths, PathIfStands, TypeStands, TypeIfStands, BoundsStand, ShapeStands}
+use Rattle.mp_tables.specs.Standing.{HeadingStands, HeadingIfStands, ConstantStands, DeclStands, TableStands}
 use Rattle.mp_tables.proofs.GrowthLemmas.{shapes_stay}
 use Rattle.mp_scope.specs.Kept.{StandsIn, Closed}
 
@@ -117,7 +118,9 @@ types_more tables more id h = some_more (shape_of tables id) (shape_of (tables +
 nested_of : Option Table → PathStep → Option Nested
 nested_of t step = option_and_then (λ x. find (λ y. same_step step y.step) x.nested) t
 
-nested_in_more : (tables more : List Table) (path : List PathStep) (step : PathStep) (x : Nested) → nested_in tables path step ≡ Some x → nested_in (tables ++ more) path step ≡ Some x
+nested_in_more :
+    (tables more : List Table) (path : List PathStep) (step : PathStep) (x : Nested) →
+    nested_in tables path step ≡ Some x → nested_in (tables ++ more) path step ≡ Some x
 unfolding nested_of
 nested_in_more tables more path step x h = by (table_at tables path) refl h
   where

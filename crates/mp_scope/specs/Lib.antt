@@ -3,3 +3,4 @@ pub mod Lent
 pub mod Gives
 pub mod Laws
 pub mod GivesTest
+pub mod Examples

@@ -8,6 +8,7 @@
 #![tactic(auto)]
 
 mod asker;
+pub mod examples;
 mod given;
 pub mod laws;
 mod scope;

@@ -1,5 +1,6 @@
 -- The tests of types tell what the cases say.
-use Rattle.std.proofs.Common.{◌≡◌, ℕ, ◌+◌, ◌<◌, ℤ, pos, negsuc, nat_abs, Bool, true, false, cond, ◌&&◌, ◌||◌, List, [], ◌∷◌, Option, Some, None, refl, sym, ap, ◌∙◌, subst, arith, nat_eq, eqb-true, eq-eqb, int_lt, ltb-true, lt-ltb}
+use Rattle.std.proofs.Common.{◌≡◌, ℕ, ◌+◌, ◌<◌, ℤ, pos, negsuc, nat_abs, Bool, true, false, cond, ◌&&◌, ◌||◌, List, [], ◌∷◌, Option, Some, None}
+use Rattle.std.proofs.Common.{refl, sym, ap, ◌∙◌, subst, arith, nat_eq, eqb-true, eq-eqb, int_lt, ltb-true, lt-ltb}
 use Rattle.std.specs.Prelude.{bytes_eq, not, option_map, ◌↔◌}
 use Rattle.std.specs.Ordering.{int_eq}
 use Rattle.std.proofs.lemmas.Slice.Eq.{bytes_eq-Decides}
@@ -13,10 +14,13 @@ use Rattle.mp_tables.specs.declared.types.ArrayShape.{ArrayShape}
 use Rattle.mp_tables.specs.declared.types.Shape.{Shape}
 use Rattle.mp_tables.specs.declared.types.Shape.TheVariants as shape
 use Rattle.mp_tables.specs.declared.types.Typed.{Typed}
-use Rattle.mp_tables.specs.TypeRelations.{same, unless_missing, both, ordinal, same_host, same_identity, same_bool, StringForm, NoString, OfLength, OfSomeLength, is_string_index, string_by, string_form, equal_length, is_nil, compatible_sets, compatible_pointers, compatible_shapes, compatible, holds_file, assignable}
+use Rattle.mp_tables.specs.TypeRelations.{same, unless_missing, both, ordinal, same_host, same_identity, same_bool, is_nil, compatible_sets, compatible_pointers}
+use Rattle.mp_tables.specs.TypeRelations.{compatible_shapes, compatible, holds_file, assignable}
+use Rattle.mp_tables.specs.TypeRelations.{StringForm, NoString, OfLength, OfSomeLength, is_string_index, string_by, string_form, equal_length}
 use Rattle.mp_tables.proofs.CleanLemmas.{false_true, some_inj}
 use Rattle.mp_tables.proofs.SortLemmas.{both_true, either_true, same-eq}
-use Rattle.mp_types.specs.Compatible.{Agree, IsCompatible, SameType, SameHost, SetsAlike, NilFirst, NilSecond, SameLength, IsNil, IsPointer, MayHaveLength, host_of, IsStringType, CharacterString, PackedArray}
+use Rattle.mp_types.specs.Compatible.{Agree, IsCompatible, SameType, SameHost, SetsAlike, NilFirst, NilSecond, SameLength, IsNil, IsPointer, host_of}
+use Rattle.mp_types.specs.Compatible.{MayHaveLength, IsStringType, CharacterString, PackedArray}
 
 -- ---- tests
 
@@ -99,7 +103,10 @@ nil_is : (t : Typed) (i : Option TypeId) (d : Option TypeId) → t.id ≡ i → 
 nil_is t None d p q e = (p, (d, q))
 nil_is t (Some x) d p q e = false_true e
 
-by_shapes : (i j : Option TypeId) (s t : Shape) → compatible_shapes (record { id = i; shape = s }) (record { id = j; shape = t }) s t ≡ true → IsCompatible (record { id = i; shape = s }) (record { id = j; shape = t })
+by_shapes :
+    (i j : Option TypeId) (s t : Shape) →
+    compatible_shapes (record { id = i; shape = s }) (record { id = j; shape = t }) s t ≡ true →
+    IsCompatible (record { id = i; shape = s }) (record { id = j; shape = t })
 by_shapes i j (shape.SetOf p x) (shape.SetOf q y) e =
     let k = both_true (unless_missing same_bool p q) (unless_missing same_host x y) e in
     SetsAlike p q x y refl refl (agree_bools p q k.0) (agree_hosts x y k.1)
@@ -149,18 +156,26 @@ equal_lengths (OfLength l) NoString n p q = absurd q
 equal_lengths OfSomeLength NoString n p q = absurd q
 
 -- ordinal types with one host, and strings of one length, are compatible by their shapes
-hosts_compatible : (i j : Option TypeId) (s t : Shape) (x y : Bounds) → ordinal (record { id = i; shape = s }) ≡ Some x → ordinal (record { id = j; shape = t }) ≡ Some y → x.host ≡ y.host → compatible_shapes (record { id = i; shape = s }) (record { id = j; shape = t }) s t ≡ true
+hosts_compatible :
+    (i j : Option TypeId) (s t : Shape) (x y : Bounds) →
+    ordinal (record { id = i; shape = s }) ≡ Some x → ordinal (record { id = j; shape = t }) ≡ Some y → x.host ≡ y.host →
+    compatible_shapes (record { id = i; shape = s }) (record { id = j; shape = t }) s t ≡ true
 hosts_compatible i j (shape.SetOf p b) (shape.SetOf q c) x y e f h = none_some e
 hosts_compatible i j (shape.Ptr d) (shape.Ptr c) x y e f h = none_some e
 hosts_compatible i j s t x y e f h =
     first_is (both same_host (ordinal (record { id = i; shape = s })) (ordinal (record { id = j; shape = t }))) (equal_length (string_form s) (string_form t))
     (ap (λ o. both same_host o (ordinal (record { id = j; shape = t }))) e ∙ ap (λ o. both same_host (Some x) o) f ∙ same-is x.host y.host h)
 
-lengths_compatible : (i j : Option TypeId) (s t : Shape) (n : ℕ) → MayHaveLength (string_form s) n → MayHaveLength (string_form t) n → compatible_shapes (record { id = i; shape = s }) (record { id = j; shape = t }) s t ≡ true
+lengths_compatible :
+    (i j : Option TypeId) (s t : Shape) (n : ℕ) →
+    MayHaveLength (string_form s) n → MayHaveLength (string_form t) n →
+    compatible_shapes (record { id = i; shape = s }) (record { id = j; shape = t }) s t ≡ true
 lengths_compatible i j (shape.SetOf p b) (shape.SetOf q c) n e f = absurd e
 lengths_compatible i j (shape.Ptr d) (shape.Ptr c) n e f = absurd e
 lengths_compatible i j s t n e f =
-    second_is (both same_host (ordinal (record { id = i; shape = s })) (ordinal (record { id = j; shape = t }))) (equal_length (string_form s) (string_form t)) (equal_lengths (string_form s) (string_form t) n e f)
+    second_is (both same_host (ordinal (record { id = i; shape = s })) (ordinal (record { id = j; shape = t })))
+    (equal_length (string_form s) (string_form t))
+    (equal_lengths (string_form s) (string_form t) n e f)
 
 by_shape : (a b : Typed) (s t : Shape) → a.shape ≡ s → b.shape ≡ t → compatible_shapes a b s t ≡ true → compatible a b ≡ true
 by_shape a b s t p q e =
@@ -170,12 +185,15 @@ is_nil-is : (t : Typed) (d : Option TypeId) → t.id ≡ None → t.shape ≡ sh
 is_nil-is t d p q = ap (λ i. is_nil (record { id = i; shape = t.shape })) p ∙ ap (λ s. is_nil (record { id = None; shape = s })) q
 
 is-compatible : (a b : Typed) → IsCompatible a b → compatible a b ≡ true
-is-compatible a b (SameType id p q) = first_is (same_identity a b) (compatible_shapes a b a.shape b.shape) (ap (λ i. both same i b.id) p ∙ ap (λ i. both same (Some id) i) q ∙ same-refl id)
+is-compatible a b (SameType id p q) =
+    first_is (same_identity a b) (compatible_shapes a b a.shape b.shape)
+    (ap (λ i. both same i b.id) p ∙ ap (λ i. both same (Some id) i) q ∙ same-refl id)
 is-compatible a b (SameHost x y p q h) = by_shape a b a.shape b.shape refl refl (hosts_compatible a.id b.id a.shape b.shape x y p q h)
 is-compatible a b (SetsAlike p q x y e f g h) =
     by_shape a b (shape.SetOf p x) (shape.SetOf q y) e f (both_are (unless_missing same_bool p q) (unless_missing same_host x y) (bools_agree p q g) (hosts_agree x y h))
 is-compatible a b (NilFirst n p) =
-    by_shape a b (shape.Ptr n.1.0) (shape.Ptr p.0) n.1.1 p.1 (first_is (same_identity a b || is_nil a) (is_nil b) (second_is (same_identity a b) (is_nil a) (is_nil-is a n.1.0 n.0 n.1.1)))
+    by_shape a b (shape.Ptr n.1.0) (shape.Ptr p.0) n.1.1 p.1
+    (first_is (same_identity a b || is_nil a) (is_nil b) (second_is (same_identity a b) (is_nil a) (is_nil-is a n.1.0 n.0 n.1.1)))
 is-compatible a b (NilSecond p n) =
     by_shape a b (shape.Ptr p.0) (shape.Ptr n.1.0) p.1 n.1.1 (second_is (same_identity a b || is_nil a) (is_nil b) (is_nil-is b n.1.0 n.0 n.1.1))
 is-compatible a b (SameLength n p q) = by_shape a b a.shape b.shape refl refl (lengths_compatible a.id b.id a.shape b.shape n p q)
@@ -212,14 +230,24 @@ some_form : {A : Type 0} {n : ℕ} → OfSomeLength ≡ OfLength n → A
 some_form e = absurd cc
 
 module _ (a : ArrayShape) (n : ℕ) where
-  by_high : (b : Bounds) (z : ℤ) → a.packed ≡ true → a.index ≡ Some (record b { high = z }) → a.component ≡ Some type.Char → type.Integer ≡ b.host → b.low ≡ pos 1 → int_lt (pos 1) z ≡ true → nat_abs z ≡ n → IsStringType (shape.Arr a) n
+  by_high :
+      (b : Bounds) (z : ℤ) →
+      a.packed ≡ true → a.index ≡ Some (record b { high = z }) → a.component ≡ Some type.Char →
+      type.Integer ≡ b.host → b.low ≡ pos 1 → int_lt (pos 1) z ≡ true → nat_abs z ≡ n →
+      IsStringType (shape.Arr a) n
   by_high b (negsuc k) p i c h l g e = false_true g
   by_high b (pos k) p i c h l g e =
       PackedArray a n p
-      (i ∙ ap (λ t. Some (record { host = t; low = b.low; high = pos k })) (sym h) ∙ ap (λ z. Some (record { host = type.Integer; low = z; high = pos k })) l ∙ ap (λ m. Some (record { host = type.Integer; low = pos 1; high = pos m })) e)
+      (i
+      ∙ ap (λ t. Some (record { host = t; low = b.low; high = pos k })) (sym h)
+      ∙ ap (λ z. Some (record { host = type.Integer; low = z; high = pos k })) l
+      ∙ ap (λ m. Some (record { host = type.Integer; low = pos 1; high = pos m })) e)
       (omega (arith, ltb-true 1 k g, e)) c
 
-  by_index : (b : Bounds) (c : TypeId) (t : Bool) → (is_string_index b && same type.Char c) ≡ t → a.packed ≡ true → a.index ≡ Some b → a.component ≡ Some c → cond t (OfLength (nat_abs b.high)) NoString ≡ OfLength n → IsStringType (shape.Arr a) n
+  by_index :
+      (b : Bounds) (c : TypeId) (t : Bool) →
+      (is_string_index b && same type.Char c) ≡ t → a.packed ≡ true → a.index ≡ Some b → a.component ≡ Some c →
+      cond t (OfLength (nat_abs b.high)) NoString ≡ OfLength n → IsStringType (shape.Arr a) n
   by_index b c false k p i j e = no_form e
   by_index b c true k p i j e =
       let u = both_true (is_string_index b) (same type.Char c) k in

@@ -1,5 +1,6 @@
 -- Congruous headings: what is left to compare behind the first formals; and what congruity says of headings as a whole.
-use Rattle.std.proofs.Common.{◌≡◌, ◌≢◌, ℕ, ◌+◌, ◌≤◌, ◌<◌, suc, Bool, true, false, ◌&&◌, List, [], ◌∷◌, Option, Some, None, length, length-drop, map, get_or, drop, refl, sym, ap, ◌∙◌, subst, arith, nat_eq, eqb-true, eq-eqb}
+use Rattle.std.proofs.Common.{◌≡◌, ◌≢◌, ℕ, ◌+◌, ◌≤◌, ◌<◌, suc, Bool, true, false, ◌&&◌, List, [], ◌∷◌, Option, Some, None, length, length-drop}
+use Rattle.std.proofs.Common.{map, get_or, drop, refl, sym, ap, ◌∙◌, subst, arith, nat_eq, eqb-true, eq-eqb}
 use Rattle.std.proofs.Math.Seq.{drop-cons}
 use Rattle.mp_tables.specs.declared.types.TypeId.{TypeId}
 use Rattle.mp_tables.specs.declared.headings.Formal.{Formal}
@@ -48,7 +49,9 @@ rest-next a b at d e h r t =
           (ap (λ x. x && congruous_lists (drop (suc at) a) (drop (suc at) b)) (sym t) ∙ sym (left-step a b at d e h (omega (arith, r.long))) ∙ r.left);
     }
 
-pub rest-unequal : (a b : List Formal) (at : ℕ) (d e : Formal) → at < length a → Rest a b at → congruous_formals (get_or a at d) (get_or b at e) ≡ false → congruous_lists a b ≡ false
+pub rest-unequal :
+    (a b : List Formal) (at : ℕ) (d e : Formal) →
+    at < length a → Rest a b at → congruous_formals (get_or a at d) (get_or b at e) ≡ false → congruous_lists a b ≡ false
 rest-unequal a b at d e h r t = sym r.left ∙ left-step a b at d e h (omega (arith, r.long)) ∙ ap (λ x. x && congruous_lists (drop (suc at) a) (drop (suc at) b)) t
 
 pub rest-none : (a b : List Formal) (at : ℕ) → length a ≤ at → Rest a b at → congruous_lists a b ≡ true
@@ -90,7 +93,9 @@ formals-sym a b e =
     let r = both_true (nat_eq a.depth b.depth) (nat_eq a.section b.section) q.0 in
     both_are (nat_eq b.depth a.depth && nat_eq b.section a.section && same_kind b.kind a.kind) (unless_missing same b.of a.of)
     (both_are (nat_eq b.depth a.depth && nat_eq b.section a.section) (same_kind b.kind a.kind)
-    (both_are (nat_eq b.depth a.depth) (nat_eq b.section a.section) (eq-eqb b.depth a.depth (sym (eqb-true a.depth b.depth r.0))) (eq-eqb b.section a.section (sym (eqb-true a.section b.section r.1))))
+    (both_are (nat_eq b.depth a.depth) (nat_eq b.section a.section)
+    (eq-eqb b.depth a.depth (sym (eqb-true a.depth b.depth r.0)))
+    (eq-eqb b.section a.section (sym (eqb-true a.section b.section r.1))))
     (same_kind-is b.kind a.kind (sym (same_kind-eq a.kind b.kind q.1))))
     (same_if-sym a.of b.of p.1)
 
@@ -135,7 +140,9 @@ unnamed-lists (f ∷ a) (g ∷ b) e =
 
 pub unnamed-congruous : (a b : Heading) → unnamed a ≡ unnamed b → congruous a b ≡ true
 unnamed-congruous a b e =
-    both_are (congruous_lists a.formals b.formals) (unless_missing same a.result b.result) (unnamed-lists a.formals b.formals (ap (λ h. h.formals) e)) (subst (λ x. unless_missing same a.result x ≡ true) (ap (λ h. h.result) e) (same_if-refl a.result))
+    both_are (congruous_lists a.formals b.formals) (unless_missing same a.result b.result)
+    (unnamed-lists a.formals b.formals (ap (λ h. h.formals) e))
+    (subst (λ x. unless_missing same a.result x ≡ true) (ap (λ h. h.result) e) (same_if-refl a.result))
 
 -- ---- where no type is missing, nothing else differs
 

@@ -1,3 +1,5 @@
 pub mod CompatibleLemmas
 pub mod CongruityLemmas
 pub mod RequiredLemmas
+pub mod AssignableLemmas
+pub mod OrdinalLemmas

@@ -11,7 +11,9 @@ use Rattle.mp_tables.specs.RequiredNames.{required_shape}
 use Rattle.mp_tables.specs.TypeRelations.{ordinal}
 use Rattle.mp_tables.proofs.CleanLemmas.{some_inj}
 
-pub lookup-rows : {K V X : Type 0} (test : K → Bool) (key : X → K) (value : X → V) (rows : List X) → lookup test (map (λ r. (key r, value r)) rows) ≡ option_map value (find (λ r. test (key r)) rows)
+pub lookup-rows :
+    {K V X : Type 0} (test : K → Bool) (key : X → K) (value : X → V) (rows : List X) →
+    lookup test (map (λ r. (key r, value r)) rows) ≡ option_map value (find (λ r. test (key r)) rows)
 lookup-rows test key value [] = refl
 lookup-rows test key value (r ∷ rows) =
     elim (test (key r)) as (λ t. cond t (Some (value r)) (lookup test (map (λ x. (key x, value x)) rows)) ≡ option_map value (cond t (Some r) (find (λ x. test (key x)) rows)))

@@ -1,5 +1,5 @@
 -- Which types are compatible, case by case, and which are string types: what the tests of identities and shapes are to tell.
-use Rattle.std.specs.Prelude.{◌≡◌, ℕ, ◌<◌, pos, Bool, true, Option, Some, None, option_map}
+use Rattle.std.specs.Prelude.{◌≡◌, ℕ, ◌<◌, pos, Bool, true, false, Option, Some, None, option_map}
 use Rattle.mp_tables.specs.declared.types.TypeId.{TypeId}
 use Rattle.mp_tables.specs.declared.types.TypeId.TheVariants as type
 use Rattle.mp_tables.specs.declared.types.Bounds.{Bounds}
@@ -7,7 +7,7 @@ use Rattle.mp_tables.specs.declared.types.ArrayShape.{ArrayShape}
 use Rattle.mp_tables.specs.declared.types.Shape.{Shape}
 use Rattle.mp_tables.specs.declared.types.Shape.TheVariants as shape
 use Rattle.mp_tables.specs.declared.types.Typed.{Typed}
-use Rattle.mp_tables.specs.TypeRelations.{StringForm, NoString, OfLength, OfSomeLength, ordinal, string_form}
+use Rattle.mp_tables.specs.TypeRelations.{StringForm, NoString, OfLength, OfSomeLength, holds_file, ordinal, string_form}
 
 -- two are one, where both are known
 abbrev pub Agree : {A : Type 0} → Option A → Option A → Type 0
@@ -56,3 +56,10 @@ pub data IsCompatible (a b : Typed) : Type 0 where
   NilSecond : IsPointer a → IsNil b → IsCompatible a b
   -- strings of one length
   SameLength : (n : ℕ) → MayHaveLength (string_form a.shape) n → MayHaveLength (string_form b.shape) n → IsCompatible a b
+
+-- ---- assignment-compatible types (ISO 7185, 6.4.6)
+
+-- compatible; and where the two are one type, it is no file and holds none
+pub record IsAssignable (value target : Typed) : Type 0 where
+  pub fits : IsCompatible value target
+  pub no_file : (id : TypeId) → value.id ≡ Some id → target.id ≡ Some id → holds_file target.shape ≡ false

@@ -1,3 +1,4 @@
 pub mod Values
 pub mod Compatible
+pub mod Ordinals
 pub mod Examples
