@@ -1,0 +1,16 @@
+//! The stack machine: what each instruction does to a state of activations, cells, objects and files, one row of the
+//! table an instruction, with the faults and limits that a run meets and their order.
+//!
+//! The definitions are total functions; where an instruction does not find what the table wants they are stuck, and no
+//! promise of the machine speaks of that. The crate stands on `mp_code`, `mp_memory` and `mp_files`.
+#![tactic(auto)]
+
+mod answers;
+pub mod examples;
+pub mod laws;
+mod objects;
+mod operands;
+
+pub use answers::Gone;
+pub use objects::Object;
+pub use operands::{Cells, Operand};
