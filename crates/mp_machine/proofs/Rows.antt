@@ -34,7 +34,8 @@ use Rattle.mp_machine.specs.declared.operands.Operand.TheVariants.{One, Block}
 use Rattle.mp_machine.specs.States.{Frame, State, Codes, code_of, activations_in, newest_path}
 use Rattle.mp_machine.specs.Outcomes.{Outcome, Done, Fault, Limit, Missing, Ended, Lacking, Stuck, Action, Row, bind, ◌>>=◌}
 use Rattle.mp_machine.specs.Outcomes.{◌>>◌, gives, skip, now, update, fault, limit, ended, stuck, needs, choose, unless}
-use Rattle.mp_machine.specs.Operands.{Address, with_newest, change_newest, go_on_at, put, taken, without_operand, take, as_cell}
+use Rattle.mp_machine.specs.declared.addresses.Address.{Address}
+use Rattle.mp_machine.specs.Operands.{with_newest, change_newest, go_on_at, put, taken, without_operand, take, as_cell}
 use Rattle.mp_machine.specs.Operands.{as_block, as_number, as_members, as_pointer, as_address, take_cell, take_block}
 use Rattle.mp_machine.specs.Operands.{take_number, take_members, take_pointer, take_address, cells_in, take_all}
 use Rattle.mp_machine.specs.Memory.{what_is, cell_of, cells_of, defined, with_root_cells, set_cells, set_cell, undefined_cells}

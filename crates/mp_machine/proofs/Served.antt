@@ -29,7 +29,8 @@ use Rattle.mp_machine.specs.declared.operands.Operand.TheVariants.{One, Block}
 use Rattle.mp_machine.specs.States.{Frame, State, activations_in}
 use Rattle.mp_machine.specs.Outcomes.{Outcome, Done, Fault, Limit, Missing, Ended, Lacking, Stuck, Action, Row, bind, ◌>>=◌}
 use Rattle.mp_machine.specs.Outcomes.{◌>>◌, gives, skip, now, update, fault, limit, stuck, needs, choose, unless}
-use Rattle.mp_machine.specs.Operands.{Address, with_newest, put, taken, without_operand, take, as_cell, as_block, as_number}
+use Rattle.mp_machine.specs.declared.addresses.Address.{Address}
+use Rattle.mp_machine.specs.Operands.{with_newest, put, taken, without_operand, take, as_cell, as_block, as_number}
 use Rattle.mp_machine.specs.Operands.{as_members, as_pointer, as_address, take_cell, take_block, take_number, take_members}
 use Rattle.mp_machine.specs.Operands.{take_pointer, take_address, cells_in, take_all}
 use Rattle.mp_machine.specs.Memory.{what_is, cell_of, cells_of, defined, with_root_cells, set_cells, set_cell, undefined_cells}

@@ -20,7 +20,8 @@ use Rattle.mp_files.specs.TextFiles as text
 use Rattle.mp_files.specs.WrittenFields.{integer_field, truth_field, character_field, width_refusal, width_of}
 use Rattle.mp_machine.specs.Outcomes.{Action, Row, ◌>>=◌, ◌>>◌, gives, skip, now, update, fault, limit, stuck, needs, choose}
 use Rattle.mp_machine.specs.Outcomes.{unless}
-use Rattle.mp_machine.specs.Operands.{Address, put_cell, put_number, put_truth, take_number, take_address, take_block}
+use Rattle.mp_machine.specs.declared.addresses.Address.{Address}
+use Rattle.mp_machine.specs.Operands.{put_cell, put_number, put_truth, take_number, take_address, take_block}
 use Rattle.mp_machine.specs.Memory.{cell_of, set_cell, defined, beyond}
 use Rattle.mp_machine.specs.Operands.{as_number}
 use Rattle.mp_machine.specs.ValueRows.{characters_of}

@@ -13,6 +13,7 @@ pub mod FileRows
 pub mod Table
 pub mod Steps
 pub mod Views
+pub mod Shown
 pub mod Runs
 pub mod Laws
 pub mod DepthLaws

@@ -7,7 +7,7 @@ use Rattle.mp_machine.specs.declared.objects.Object.{Object}
 use Rattle.mp_machine.specs.Activations.{holder}
 use Rattle.mp_machine.specs.States.{State, activations_in}
 use Rattle.mp_machine.specs.Outcomes.{Action, Row, ◌>>=◌, ◌>>◌, gives, skip, now, update, fault, stuck, needs}
-use Rattle.mp_machine.specs.Operands.{Address}
+use Rattle.mp_machine.specs.declared.addresses.Address.{Address}
 
 abbrev pub what_is : {A : Type 0} → Found A → Action A
 what_is (Got x) = gives x

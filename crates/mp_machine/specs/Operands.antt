@@ -2,16 +2,12 @@
 use Rattle.std.specs.Prelude.{ℕ, zero, suc, Bool, List, [], ◌∷◌, ◌++◌, ℤ}
 use Rattle.mp_memory.specs.declared.cells.Cell.{Cell}
 use Rattle.mp_memory.specs.declared.cells.Cell.TheVariants as cell
+use Rattle.mp_machine.specs.declared.addresses.Address.{Address}
 use Rattle.mp_machine.specs.Numbers.{truth}
 use Rattle.mp_machine.specs.declared.operands.Operand.{Operand}
 use Rattle.mp_machine.specs.declared.operands.Operand.TheVariants.{One, Block}
 use Rattle.mp_machine.specs.States.{Frame, State}
 use Rattle.mp_machine.specs.Outcomes.{Outcome, Done, Lacking, Stuck, Action, Row, ◌>>=◌, gives, stuck}
-
--- a reference to a cell
-pub record Address : Type 0 where
-  pub root : ℕ
-  pub offset : ℕ
 
 -- ---- the newest activation
 

@@ -10,7 +10,8 @@ use Rattle.mp_memory.specs.declared.cells.Cell.TheVariants as cell
 use Rattle.mp_machine.specs.Numbers.{lies_in, one_of, natural}
 use Rattle.mp_machine.specs.declared.operands.Operand.TheVariants.{Block}
 use Rattle.mp_machine.specs.Outcomes.{Row, ◌>>=◌, ◌>>◌, fault, stuck, choose, unless}
-use Rattle.mp_machine.specs.Operands.{Address, put, put_cell, put_reference, take_cell, take_number, take_pointer, take_address}
+use Rattle.mp_machine.specs.declared.addresses.Address.{Address}
+use Rattle.mp_machine.specs.Operands.{put, put_cell, put_reference, take_cell, take_number, take_pointer, take_address}
 use Rattle.mp_machine.specs.Operands.{take_block}
 use Rattle.mp_machine.specs.Memory.{cell_of, cells_of, defined, set_cell, set_cells, undefined_cells, beyond, activation_at}
 use Rattle.mp_machine.specs.Memory.{object_at}

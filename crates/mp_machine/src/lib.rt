@@ -5,11 +5,19 @@
 //! promise of the machine speaks of that. The crate stands on `mp_code`, `mp_memory` and `mp_files`.
 #![tactic(auto)]
 
+mod activations;
+mod addresses;
 mod answers;
+mod cells;
 pub mod examples;
+mod jumps;
 pub mod laws;
+mod numbers;
 mod objects;
 mod operands;
+mod processor;
+mod relations;
+mod variables;
 
 pub use answers::Gone;
 pub use objects::Object;

@@ -1,3 +1,5 @@
+ghost use Rattle.std.specs.Prelude.{◌≡◌};
+
 use mp_memory::Cell;
 use std::marker::Model;
 
@@ -14,6 +16,15 @@ impl Model for Cells {
     ghost Value = { List Cell };
 
     ghost view = { λ cells. cells.items.items };
+}
+
+impl Cells {
+    /// The cells themselves.
+    pub fn get(&self) -> &[Cell]
+        ensures { result.now ≡ self.now }
+    {
+        self.items.as_slice()
+    }
 }
 
 /// An operand of the machine: a cell, or a block of cells.
