@@ -13,6 +13,7 @@ pub mod FileRows
 pub mod Table
 pub mod Steps
 pub mod Views
+pub mod Loads
 pub mod Shown
 pub mod Runs
 pub mod Laws

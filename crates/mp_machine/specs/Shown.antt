@@ -1,6 +1,6 @@
 -- The state of the table that a processor's vectors stand for, and what it is to agree with a row of the table. No promise
 -- of the machine to its users cites this but the view that it is seen through.
-use Rattle.std.specs.Prelude.{◌≡◌, ℕ, ◌+◌, ◌≤◌, List, [], ◌∷◌, length, reverse, take, drop, Some, None, Ok, Err, Result, is_some, vec_len, vec_capacity}
+use Rattle.std.specs.Prelude.{◌≡◌, ℕ, ◌+◌, ◌≤◌, List, [], ◌∷◌, length, map, reverse, take, drop, Some, None, Ok, Err, Result, is_some, vec_len, vec_capacity}
 use Rattle.mp_code.specs.BlockCode.{BlockCode}
 use Rattle.mp_memory.specs.Roots.{Contents, roots_of}
 use Rattle.mp_files.specs.RunFiles.{RunFiles}
@@ -10,6 +10,7 @@ use Rattle.mp_machine.specs.declared.activations.Activation.{Activation}
 use Rattle.mp_machine.specs.declared.processor.Processor.{Processor}
 use Rattle.mp_machine.specs.declared.processor.Stop.{Stop}
 use Rattle.mp_machine.specs.declared.processor.Stop.TheVariants as stop
+use Rattle.mp_machine.specs.Activations.{Activation as Live}
 use Rattle.mp_machine.specs.Blocks.{Path}
 use Rattle.mp_machine.specs.States.{Frame, State}
 use Rattle.mp_machine.specs.Outcomes.{Outcome, Done, Fault, Limit, Missing, Ended, Lacking, Stuck}
@@ -21,9 +22,15 @@ pub record World : Type 0 where
   pub files : RunFiles
   pub blocks : List Path
 
+abbrev pub activation_seen : (ℕ → Path) → Activation → Live
+activation_seen paths a = record { number = a.number; block = paths a.block; parent = a.parent; from = a.from; cells = a.cells }
+
+abbrev pub activations_seen : (ℕ → Path) → List Activation → List Live
+activations_seen paths all = map (activation_seen paths) all
+
 abbrev pub frame_seen : (ℕ → Path) → Activation → (own : List Operand) → Frame
 frame_seen paths a own = record {
-  activation = record { number = a.number; block = paths a.block; parent = a.parent; from = a.from; cells = a.cells };
+  activation = activation_seen paths a;
   next = a.next;
   operands = own;
 }
