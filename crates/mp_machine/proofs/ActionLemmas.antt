@@ -28,6 +28,9 @@ stuck_bind (Missing p) go h = absurd h
 stuck_bind (Limit k s) go h = absurd h
 stuck_bind (Ended s) go h = absurd h
 
+pub stuck_first : {A B : Type 0} (o : Outcome A) (go : A → State → Outcome B) → IsStuck o → IsStuck (bind o go)
+stuck_first o go h = stuck_bind o go h
+
 -- what stops an action stops all that begin with it
 pub stops_first : {A B : Type 0} (e : Stop) (o : Outcome A) (t : State) (go : A → State → Outcome B) → Stops e o t → Stops e (bind o go) t
 stops_first (stop.Fault n) o t go h = ap (λ o. bind o go) h

@@ -39,7 +39,7 @@ use Rattle.mp_machine.specs.Operands.{with_newest, change_newest, go_on_at, put,
 use Rattle.mp_machine.specs.Operands.{as_block, as_number, as_members, as_pointer, as_address, take_cell, take_block}
 use Rattle.mp_machine.specs.Operands.{take_number, take_members, take_pointer, take_address, cells_in, take_all}
 use Rattle.mp_machine.specs.Memory.{what_is, cell_of, cells_of, defined, with_root_cells, set_cells, set_cell, undefined_cells}
-use Rattle.mp_machine.specs.Memory.{beyond, activation_at, must_be_there, object_at}
+use Rattle.mp_machine.specs.Memory.{beyond, nothing_there, offset_limit, reach, activation_at, must_be_there, object_at}
 use Rattle.mp_machine.specs.ValueRows as value
 use Rattle.mp_machine.specs.VariableRows as variable
 use Rattle.mp_machine.specs.CallRows as call
@@ -254,6 +254,14 @@ module _ (R : State → State → Type 0) (P : Path → Type 0) (h : Keeping R) 
   pub activation_at_kept : (d : ℕ) → Kept (activation_at d)
   activation_at_kept d = looks_kept (λ s. needs_kept (holder (activations_in s.frames) d))
 
+  nothing_there_kept : (c : Option (List Cell)) → Kept (what_is (nothing_there c))
+  nothing_there_kept None = fault_kept 8
+  nothing_there_kept (Some cells) = stuck_kept
+
+  pub reach_kept : (a : Address) (n : ℕ) → Kept (reach a n)
+  reach_kept a n = looks_kept (λ s. choose_kept (nat_lt (a.offset + n) offset_limit) (gives_kept (beyond a n))
+      (nothing_there_kept (s.roots a.root)))
+
   must_be_there_kept : (c : Option (List Cell)) → Kept (must_be_there c)
   must_be_there_kept None = fault_kept 8
   must_be_there_kept (Some cells) = skip_kept
@@ -324,7 +332,7 @@ module _ (R : State → State → Type 0) (P : Path → Type 0) (h : Keeping R) 
   -- ---- rows on variables
 
   put_far_kept : (a : Address) → Kept (variable.put_far a)
-  put_far_kept a = choose_kept (nat_lt a.offset variable.offset_limit) (put_kept _) stuck_kept
+  put_far_kept a = choose_kept (nat_lt a.offset offset_limit) (put_kept _) stuck_kept
 
   addr_kept : (d o : ℕ) → Kept (variable.addr d o)
   addr_kept d o = bind_kept (activation_at_kept d) (λ number. put_kept _)
@@ -355,18 +363,20 @@ module _ (R : State → State → Type 0) (P : Path → Type 0) (h : Keeping R) 
   store_many_kept : (n : ℕ) → Kept (variable.store_many n)
   store_many_kept n = bind_kept take_block_kept (λ xs. bind_kept take_address_kept (λ a. set_cells_kept a xs))
 
+  set_tag_kept : (a : Address) (x : Cell) (n : ℕ) → Kept (variable.set_tag a x n)
+  set_tag_kept a x n = then_kept (set_cell_kept a x) (bind_kept (reach_kept a 1) (λ b. set_cells_kept b (undefined_cells n)))
+
   active_kept : (o : ℕ) (constants : List ℤ) → Kept (variable.active o constants)
-  active_kept o constants = bind_kept take_address_kept (λ a. bind_kept (cell_of_kept (beyond a o)) (λ tag.
-      then_kept (unless_kept (variable.is_tag_of constants tag) (fault_kept 10)) (put_kept _)))
+  active_kept o constants = bind_kept take_address_kept (λ a. bind_kept (reach_kept a o) (λ b. bind_kept (cell_of_kept b) (λ tag.
+      then_kept (unless_kept (variable.is_tag_of constants tag) (fault_kept 10)) (put_kept _))))
 
   select_kept : (o : ℕ) (constant : ℤ) (constants : List ℤ) (n : ℕ) → Kept (variable.select o constant constants n)
-  select_kept o constant constants n = bind_kept take_address_kept (λ a. bind_kept (cell_of_kept (beyond a o)) (λ tag.
-      then_kept (unless_kept (variable.is_tag_of constants tag) (set_cells_kept (beyond a o) (cell.Int constant ∷
-      undefined_cells n))) (put_kept _)))
+  select_kept o constant constants n = bind_kept take_address_kept (λ a. bind_kept (reach_kept a o) (λ b. bind_kept (cell_of_kept b) (λ tag.
+      then_kept (unless_kept (variable.is_tag_of constants tag) (set_tag_kept b (cell.Int constant) n)) (put_kept _))))
 
   tag_kept : (groups : List Group) (n : ℕ) → Kept (variable.tag groups n)
   tag_kept groups n = bind_kept take_cell_kept (λ x. bind_kept take_address_kept (λ a. bind_kept (cell_of_kept a) (λ old.
-      choose_kept (variable.same_variant groups old x) (set_cell_kept a x) (set_cells_kept a (x ∷ undefined_cells n)))))
+      choose_kept (variable.same_variant groups old x) (set_cell_kept a x) (set_tag_kept a x n))))
 
   -- ---- jumps
 
@@ -465,7 +475,7 @@ module _ (R : State → State → Type 0) (P : Path → Type 0) (h : Keeping R) 
   answer_kept (Fails n) = fault_kept n
 
   ask_kept : {A : Type 0} (a : Address) (question : TextFile → FileCall A) → Kept (files.ask a question)
-  ask_kept a question = bind_kept (file_in_kept a) (λ f. answer_kept (question f))
+  ask_kept a question = bind_kept (file_number_kept a) (λ k. bind_kept (file_of_kept k) (λ f. answer_kept (question f)))
 
   result_kept : {A : Type 0} (k : Option ℕ) (operation : TextFile → FileCall A) → Appends operation →
       Kept (files.file_of k >>= (λ f. files.result k (operation f)))
@@ -491,7 +501,7 @@ module _ (R : State → State → Type 0) (P : Path → Type 0) (h : Keeping R) 
   on_file_kept a operation g = bind_kept (file_number_kept a) (λ k. result_kept k operation g)
 
   renew_kept : (a : Address) → Kept (files.renew_buffer a)
-  renew_kept a = bind_kept (file_in_kept a) (λ f. set_cell_kept (files.buffer_of a) (files.buffer_cell (shown f)))
+  renew_kept a = bind_kept (ask_kept a (λ f. Gives (shown f) f)) (λ x. bind_kept (reach_kept a 1) (λ b. set_cell_kept b (files.buffer_cell x)))
 
   choose_by : {A : Type 0} (b : Bool) {m o : Action A} → (b ≡ true → Kept m) → (b ≡ false → Kept o) → Kept (choose b m o)
   choose_by true f g = record { by = λ s. (f refl).by s }
@@ -543,9 +553,9 @@ module _ (R : State → State → Type 0) (P : Path → Type 0) (h : Keeping R) 
   write_bytes_kept a bytes = write_to_kept a (map Character bytes)
 
   put_file_kept : Kept files.put_file
-  put_file_kept = bind_kept take_address_kept (λ a. then_kept (must_write_kept a) (bind_kept (cell_of_kept (files.buffer_of a))
+  put_file_kept = bind_kept take_address_kept (λ a. then_kept (must_write_kept a) (bind_kept (reach_kept a 1) (λ b. bind_kept (cell_of_kept b)
       (λ x. bind_kept (defined_kept x) (λ y. bind_kept (number_kept y) (λ n.
-      then_kept (write_bytes_kept a (natural n ∷ [])) (renew_kept a))))))
+      then_kept (write_bytes_kept a (natural n ∷ [])) (renew_kept a)))))))
 
   refuse_kept : (o : Option FileEnd) → Kept (files.refuse o)
   refuse_kept None = skip_kept
@@ -570,8 +580,8 @@ module _ (R : State → State → Type 0) (P : Path → Type 0) (h : Keeping R) 
       (λ w. character_field w bytes)))))
 
   read_char_kept : Kept files.read_char
-  read_char_kept = bind_kept take_address_kept (λ a. then_kept (must_read_kept a) (bind_kept (cell_of_kept (files.buffer_of a))
-      (λ x. bind_kept (defined_kept x) (λ y. then_kept (get_at_kept a) (put_kept (One y))))))
+  read_char_kept = bind_kept take_address_kept (λ a. then_kept (must_read_kept a) (bind_kept (reach_kept a 1) (λ b. bind_kept (cell_of_kept b)
+      (λ x. bind_kept (defined_kept x) (λ y. then_kept (get_at_kept a) (put_kept (One y)))))))
 
   file_row_kept : (o : FileOperation) → Kept (files.file_row o)
   file_row_kept file.Eof = bind_kept take_address_kept (λ a. bind_kept (ask_kept a text.eof) (λ is. put_kept _))

@@ -34,7 +34,7 @@ use Rattle.mp_machine.specs.Operands.{with_newest, put, taken, without_operand, 
 use Rattle.mp_machine.specs.Operands.{as_members, as_pointer, as_address, take_cell, take_block, take_number, take_members}
 use Rattle.mp_machine.specs.Operands.{take_pointer, take_address, cells_in, take_all}
 use Rattle.mp_machine.specs.Memory.{what_is, cell_of, cells_of, defined, with_root_cells, set_cells, set_cell, undefined_cells}
-use Rattle.mp_machine.specs.Memory.{beyond, activation_at, must_be_there, object_at}
+use Rattle.mp_machine.specs.Memory.{beyond, nothing_there, offset_limit, reach, activation_at, must_be_there, object_at}
 use Rattle.mp_machine.specs.ValueRows as value
 use Rattle.mp_machine.specs.VariableRows as variable
 use Rattle.mp_machine.specs.CallRows as call
@@ -224,6 +224,10 @@ set_cell_uses a x = set_cells_uses a (x ∷ [])
 pub activation_at_uses : {n : ℕ} (d : ℕ) → Uses n n (activation_at d)
 activation_at_uses d = looks_uses (λ s. needs_uses (holder (activations_in s.frames) d))
 
+pub reach_uses : {m : ℕ} (a : Address) (n : ℕ) → Uses m m (reach a n)
+reach_uses a n = looks_uses (λ s. choose_uses (nat_lt (a.offset + n) offset_limit) (gives_uses (beyond a n))
+    (what_is_uses (nothing_there (s.roots a.root))))
+
 must_be_there_uses : {n : ℕ} (c : Option (List Cell)) → Uses n n (must_be_there c)
 must_be_there_uses None = fault_uses 8
 must_be_there_uses (Some cells) = skip_uses
@@ -294,7 +298,7 @@ cmp_uses r = bind_uses take_uses (λ y. bind_uses take_uses (λ x. compare_uses 
 -- ---- rows on variables
 
 put_far_uses : {n : ℕ} (a : Address) → Uses n (suc n) (variable.put_far a)
-put_far_uses a = choose_uses (nat_lt a.offset variable.offset_limit) (put_uses _) stuck_uses
+put_far_uses a = choose_uses (nat_lt a.offset offset_limit) (put_uses _) stuck_uses
 
 pub addr_uses : {n : ℕ} (d o : ℕ) → Uses n (suc n) (variable.addr d o)
 addr_uses d o = bind_uses (activation_at_uses d) (λ number. put_uses _)
@@ -325,19 +329,21 @@ load_many_uses count = bind_uses take_address_uses (λ a. bind_uses (cells_of_us
 pub store_many_uses : {n : ℕ} (count : ℕ) → Uses (suc (suc n)) n (variable.store_many count)
 store_many_uses count = bind_uses take_block_uses (λ xs. bind_uses take_address_uses (λ a. set_cells_uses a xs))
 
+set_tag_uses : {n : ℕ} (a : Address) (x : Cell) (count : ℕ) → Uses n n (variable.set_tag a x count)
+set_tag_uses a x count = then_uses (set_cell_uses a x) (bind_uses (reach_uses a 1) (λ b. set_cells_uses b (undefined_cells count)))
+
 pub active_uses : {n : ℕ} (o : ℕ) (constants : List ℤ) → Uses (suc n) (suc n) (variable.active o constants)
-active_uses o constants = bind_uses take_address_uses (λ a. bind_uses (cell_of_uses (beyond a o)) (λ tag.
-    then_uses (unless_uses (variable.is_tag_of constants tag) (fault_uses 10)) (put_uses _)))
+active_uses o constants = bind_uses take_address_uses (λ a. bind_uses (reach_uses a o) (λ b. bind_uses (cell_of_uses b) (λ tag.
+    then_uses (unless_uses (variable.is_tag_of constants tag) (fault_uses 10)) (put_uses _))))
 
 pub select_uses : {n : ℕ} (o : ℕ) (constant : ℤ) (constants : List ℤ) (count : ℕ) →
     Uses (suc n) (suc n) (variable.select o constant constants count)
-select_uses o constant constants count = bind_uses take_address_uses (λ a. bind_uses (cell_of_uses (beyond a o)) (λ tag.
-    then_uses (unless_uses (variable.is_tag_of constants tag) (set_cells_uses (beyond a o) (cell.Int constant ∷
-    undefined_cells count))) (put_uses _)))
+select_uses o constant constants count = bind_uses take_address_uses (λ a. bind_uses (reach_uses a o) (λ b. bind_uses (cell_of_uses b) (λ tag.
+    then_uses (unless_uses (variable.is_tag_of constants tag) (set_tag_uses b (cell.Int constant) count)) (put_uses _))))
 
 pub tag_uses : {n : ℕ} (groups : List Group) (count : ℕ) → Uses (suc (suc n)) n (variable.tag groups count)
 tag_uses groups count = bind_uses take_cell_uses (λ x. bind_uses take_address_uses (λ a. bind_uses (cell_of_uses a) (λ old.
-    choose_uses (variable.same_variant groups old x) (set_cell_uses a x) (set_cells_uses a (x ∷ undefined_cells count)))))
+    choose_uses (variable.same_variant groups old x) (set_cell_uses a x) (set_tag_uses a x count))))
 
 -- ---- procedural values and objects
 
@@ -387,7 +393,7 @@ answer_uses (Gives x f) = gives_uses x
 answer_uses (Fails k) = fault_uses k
 
 ask_uses : {A : Type 0} {n : ℕ} (a : Address) (question : TextFile → FileCall A) → Uses n n (files.ask a question)
-ask_uses a question = bind_uses (file_in_uses a) (λ f. answer_uses (question f))
+ask_uses a question = bind_uses (file_number_uses a) (λ k. bind_uses (file_of_uses k) (λ f. answer_uses (question f)))
 
 result_uses : {A : Type 0} {n : ℕ} (k : Option ℕ) (c : FileCall A) → Uses n n (files.result k c)
 result_uses k (Gives x f) = then_uses (set_file_uses k f) (gives_uses x)
@@ -397,7 +403,7 @@ on_file_uses : {A : Type 0} {n : ℕ} (a : Address) (operation : TextFile → Fi
 on_file_uses a operation = bind_uses (file_number_uses a) (λ k. bind_uses (file_of_uses k) (λ f. result_uses k (operation f)))
 
 renew_uses : {n : ℕ} (a : Address) → Uses n n (files.renew_buffer a)
-renew_uses a = bind_uses (file_in_uses a) (λ f. set_cell_uses (files.buffer_of a) (files.buffer_cell (shown f)))
+renew_uses a = bind_uses (ask_uses a (λ f. Gives (shown f) f)) (λ x. bind_uses (reach_uses a 1) (λ b. set_cell_uses b (files.buffer_cell x)))
 
 make_file_uses : {n : ℕ} (a : Address) (k : Option ℕ) (f : TextFile) → Uses n n (files.make_file a k f)
 make_file_uses a (Some k) f = set_file_uses (Some k) f
@@ -427,9 +433,9 @@ write_bytes_uses : {n : ℕ} (a : Address) (bytes : List ℕ) → Uses n n (file
 write_bytes_uses a bytes = write_to_uses a (map Character bytes)
 
 put_file_uses : {n : ℕ} → Uses (suc n) n files.put_file
-put_file_uses = bind_uses take_address_uses (λ a. then_uses (must_write_uses a) (bind_uses (cell_of_uses (files.buffer_of a))
+put_file_uses = bind_uses take_address_uses (λ a. then_uses (must_write_uses a) (bind_uses (reach_uses a 1) (λ b. bind_uses (cell_of_uses b)
     (λ x. bind_uses (defined_uses x) (λ y. bind_uses (number_uses y) (λ i.
-    then_uses (write_bytes_uses a (natural i ∷ [])) (renew_uses a))))))
+    then_uses (write_bytes_uses a (natural i ∷ [])) (renew_uses a)))))))
 
 refuse_uses : {n : ℕ} (o : Option FileEnd) → Uses n n (files.refuse o)
 refuse_uses None = skip_uses
@@ -454,8 +460,8 @@ write_chars_uses = bind_uses take_number_uses (λ width. bind_uses take_block_us
     (λ w. character_field w bytes)))))
 
 read_char_uses : {n : ℕ} → Uses (suc n) (suc n) files.read_char
-read_char_uses = bind_uses take_address_uses (λ a. then_uses (ask_uses a _) (bind_uses (cell_of_uses (files.buffer_of a))
-    (λ x. bind_uses (defined_uses x) (λ y. then_uses (get_at_uses a) (put_uses (One y))))))
+read_char_uses = bind_uses take_address_uses (λ a. then_uses (ask_uses a _) (bind_uses (reach_uses a 1) (λ b. bind_uses (cell_of_uses b)
+    (λ x. bind_uses (defined_uses x) (λ y. then_uses (get_at_uses a) (put_uses (One y)))))))
 
 three : {n : ℕ} {act : Row} → Uses (suc (suc (suc n))) n act → Uses (3 + n) (0 + n) act
 three {n} g = uses_as (3 + n) (suc (suc (suc n))) (0 + n) n (omega arith) (omega arith) g

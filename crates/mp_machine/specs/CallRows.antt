@@ -1,7 +1,7 @@
 -- Rows that jump, call and return (ISO 7185, 6.6, 6.8.2.3, 6.8.2.4), with fault 5 for a case, fault 9 for a result, limit 1
 -- on live activations and limit 2 on live cells.
 use Rattle.std.specs.Prelude.{ℕ, suc, ◌+◌, ◌-◌, true, false, List, [], ◌∷◌, ◌++◌, length, Option, Some, None, nat_eq, nat_le}
-use Rattle.std.specs.Prelude.{nat_lt, ℤ, pos, position, slice_get}
+use Rattle.std.specs.Prelude.{nat_lt, ℤ, pos, slice_get}
 use Rattle.mp_base.specs.declared.limits.TheConstants.{ACTIVATION_LIMIT, CELL_LIMIT}
 use Rattle.mp_code.specs.declared.instructions.CaseArm.{CaseArm}
 use Rattle.mp_code.specs.BlockCode.{BlockCode, index_of_label}
@@ -41,13 +41,21 @@ case arms = do
 
 -- ---- procedural values: the block's number is given where it is first named
 
+-- among these blocks, the first of which has this number
+abbrev pub number_from : (first : ℕ) → List Path → Path → Option ℕ
+number_from n [] path = None
+number_from n (p ∷ more) path = elim (same_path p path) as (λ is. Option ℕ) [ true ↦ Some n | false ↦ number_from (n + 1) more path ]
+
 abbrev pub number_of_block : List Path → Path → Option ℕ
-number_of_block blocks path = position (λ p. same_path p path) blocks
+number_of_block blocks path = number_from 0 blocks path
+
+abbrev pub add_block : Path → Row
+add_block path = update (λ s. record s { blocks = s.blocks ++ path ∷ [] })
 
 abbrev pub put_routine : Path → (parent : ℕ) → State → Option ℕ → Row
 put_routine path parent s (Some number) = put_cell (cell.Code number parent)
 put_routine path parent s None = do
-  update (λ s. record s { blocks = s.blocks ++ path ∷ [] })
+  add_block path
   put_cell (cell.Code (length s.blocks) parent)
 
 -- none : the block with the activation of the depth

@@ -22,7 +22,7 @@ use Rattle.mp_machine.specs.Outcomes.{Action, Row, ◌>>=◌, ◌>>◌, gives, s
 use Rattle.mp_machine.specs.Outcomes.{unless}
 use Rattle.mp_machine.specs.declared.addresses.Address.{Address}
 use Rattle.mp_machine.specs.Operands.{put_cell, put_number, put_truth, take_number, take_address, take_block}
-use Rattle.mp_machine.specs.Memory.{cell_of, set_cell, defined, beyond}
+use Rattle.mp_machine.specs.Memory.{cell_of, set_cell, defined, reach}
 use Rattle.mp_machine.specs.Operands.{as_number}
 use Rattle.mp_machine.specs.ValueRows.{characters_of}
 
@@ -62,10 +62,16 @@ abbrev pub answer : {A : Type 0} → FileCall A → Action A
 answer (Gives x f) = gives x
 answer (Fails number) = fault number
 
+-- of the file of a number, or of one that was not made
+abbrev pub asked : {A : Type 0} → Option ℕ → (TextFile → FileCall A) → Action A
+asked k question = do
+  f ← file_of k
+  answer (question f)
+
 abbrev pub ask : {A : Type 0} → Address → (TextFile → FileCall A) → Action A
 ask a question = do
-  f ← file_in a
-  answer (question f)
+  k ← file_number a
+  asked k question
 
 -- what the call gives, with the file after it
 abbrev pub result : {A : Type 0} → Option ℕ → FileCall A → Action A
@@ -74,16 +80,20 @@ result k (Gives x f) = do
   gives x
 result k (Fails number) = fault number
 
-abbrev pub on_file : {A : Type 0} → Address → (TextFile → FileCall A) → Action A
-on_file a operation = do
-  k ← file_number a
+abbrev pub on_number : {A : Type 0} → Option ℕ → (TextFile → FileCall A) → Action A
+on_number k operation = do
   f ← file_of k
   result k (operation f)
 
+abbrev pub on_file : {A : Type 0} → Address → (TextFile → FileCall A) → Action A
+on_file a operation = do
+  k ← file_number a
+  on_number k operation
+
 -- ---- the buffer variable
 
-abbrev pub buffer_of : Address → Address
-buffer_of a = beyond a 1
+abbrev pub buffer_of : Address → Action Address
+buffer_of a = reach a 1
 
 abbrev pub buffer_cell : Option ℕ → Cell
 buffer_cell None = cell.Undef
@@ -92,8 +102,9 @@ buffer_cell (Some b) = cell.Int (pos b)
 -- it is set anew
 abbrev pub renew_buffer : Address → Row
 renew_buffer a = do
-  f ← file_in a
-  set_cell (buffer_of a) (buffer_cell (shown f))
+  x ← ask a (λ f. Gives (shown f) f)
+  b ← buffer_of a
+  set_cell b (buffer_cell x)
 
 -- ---- reset and rewrite; they have no effect on `input` and `output`
 
@@ -169,7 +180,8 @@ abbrev pub read_char : Row
 read_char = do
   a ← take_address
   must_read a
-  x ← cell_of (buffer_of a)
+  b ← buffer_of a
+  x ← cell_of b
   y ← defined x
   get_at a
   put_cell y
@@ -213,7 +225,8 @@ abbrev pub put_file : Row
 put_file = do
   a ← take_address
   must_write a
-  x ← cell_of (buffer_of a)
+  b ← buffer_of a
+  x ← cell_of b
   y ← defined x
   n ← as_number y
   write_bytes a (natural n ∷ [])

@@ -1,12 +1,12 @@
 -- Cells under references: a root that was dropped is that of a disposed object, which is fault 8.
-use Rattle.std.specs.Prelude.{ℕ, zero, suc, ◌+◌, List, [], ◌∷◌, Option, Some, None, replicate, slice_get}
+use Rattle.std.specs.Prelude.{ℕ, zero, suc, ◌+◌, List, [], ◌∷◌, Option, Some, None, replicate, nat_lt, slice_get}
 use Rattle.mp_memory.specs.declared.cells.Cell.{Cell}
 use Rattle.mp_memory.specs.declared.cells.Cell.TheVariants as cell
 use Rattle.mp_memory.specs.Roots.{Found, Got, Dropped, Outside, cell_at, cells_at, with_cells, with_root}
 use Rattle.mp_machine.specs.declared.objects.Object.{Object}
 use Rattle.mp_machine.specs.Activations.{holder}
 use Rattle.mp_machine.specs.States.{State, activations_in}
-use Rattle.mp_machine.specs.Outcomes.{Action, Row, ◌>>=◌, ◌>>◌, gives, skip, now, update, fault, stuck, needs}
+use Rattle.mp_machine.specs.Outcomes.{Action, Row, ◌>>=◌, ◌>>◌, gives, skip, now, update, fault, stuck, needs, choose}
 use Rattle.mp_machine.specs.declared.addresses.Address.{Address}
 
 abbrev pub what_is : {A : Type 0} → Found A → Action A
@@ -52,6 +52,20 @@ undefined_cells n = replicate n cell.Undef
 -- so many cells further
 abbrev pub beyond : Address → ℕ → Address
 beyond a n = record a { offset = a.offset + n }
+
+-- an offset has 32 bits
+abbrev pub offset_limit : ℕ
+offset_limit = 4294967296
+
+abbrev pub nothing_there : Option (List Cell) → Found Address
+nothing_there None = Dropped
+nothing_there (Some cells) = Outside
+
+-- the place so many cells further, where a cell may stand
+abbrev pub reach : Address → ℕ → Action Address
+reach a n = do
+  s ← now
+  choose (nat_lt (a.offset + n) offset_limit) (gives (beyond a n)) (what_is (nothing_there (s.roots a.root)))
 
 -- ---- static parents: the activation of the depth around the newest
 

@@ -6,6 +6,7 @@ use Rattle.mp_memory.specs.declared.cells.Cell.TheVariants as cell
 use Rattle.mp_memory.specs.Roots.{with_root}
 use Rattle.mp_machine.specs.States.{State}
 use Rattle.mp_machine.specs.Outcomes.{Row, ◌>>=◌, ◌>>◌, now, update, limit, unless}
+use Rattle.mp_machine.specs.declared.addresses.Address.{Address}
 use Rattle.mp_machine.specs.Operands.{take_address, take_pointer}
 use Rattle.mp_machine.specs.Memory.{cell_of, set_cell, undefined_cells, object_at}
 use Rattle.mp_machine.specs.CallRows.{cells_with}
@@ -17,15 +18,20 @@ with_object n s = record s {
   objects = s.objects ++ record { root = s.next_root; cells = n } ∷ [];
 }
 
+-- a new object, whose pointer is stored there
+abbrev pub new_at : Address → ℕ → Row
+new_at a n = do
+  s ← now
+  unless (nat_le (cells_with s n) CELL_LIMIT) (limit 2)
+  update (with_object n)
+  set_cell a (cell.Ptr (suc (length s.objects)))
+
 -- Ref : none
 abbrev pub new : ℕ → Row
 new n = do
   a ← take_address
   _ ← cell_of a
-  s ← now
-  unless (nat_le (cells_with s n) CELL_LIMIT) (limit 2)
-  update (with_object n)
-  set_cell a (cell.Ptr (suc (length s.objects)))
+  new_at a n
 
 -- Ptr : none
 abbrev pub dispose : Row

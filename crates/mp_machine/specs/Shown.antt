@@ -1,7 +1,9 @@
 -- The state of the table that a processor's vectors stand for, and what it is to agree with a row of the table. No promise
 -- of the machine to its users cites this but the view that it is seen through.
-use Rattle.std.specs.Prelude.{◌≡◌, ℕ, ◌+◌, ◌≤◌, List, [], ◌∷◌, length, map, reverse, take, drop, Some, None, Ok, Err, Result, is_some, vec_len, vec_capacity}
-use Rattle.mp_code.specs.BlockCode.{BlockCode}
+use Rattle.std.specs.Prelude.{◌≡◌, ℕ, ◌+◌, ◌≤◌, ◌<◌, List, [], ◌∷◌, ◌++◌, length, map, reverse, take, drop, Some, None, Ok, Err, Result, is_some, nat_eq, Bool, sum_by, vec_len, vec_capacity}
+use Rattle.std.specs.List.{list_any}
+use Rattle.mp_base.specs.declared.limits.TheConstants.{CELL_LIMIT}
+use Rattle.mp_memory.specs.declared.cells.Cell.{Cell}
 use Rattle.mp_memory.specs.Roots.{Contents, roots_of}
 use Rattle.mp_files.specs.RunFiles.{RunFiles}
 use Rattle.mp_machine.specs.declared.objects.Object.{Object}
@@ -12,8 +14,11 @@ use Rattle.mp_machine.specs.declared.processor.Stop.{Stop}
 use Rattle.mp_machine.specs.declared.processor.Stop.TheVariants as stop
 use Rattle.mp_machine.specs.Activations.{Activation as Live}
 use Rattle.mp_machine.specs.Blocks.{Path}
+use Rattle.mp_machine.specs.Operands.{cells_in, put_cell}
+use Rattle.mp_machine.specs.Memory.{cell_of, defined}
+use Rattle.mp_machine.specs.CallRows.{leave_newest}
 use Rattle.mp_machine.specs.States.{Frame, State}
-use Rattle.mp_machine.specs.Outcomes.{Outcome, Done, Fault, Limit, Missing, Ended, Lacking, Stuck}
+use Rattle.mp_machine.specs.Outcomes.{Outcome, Done, Fault, Limit, Missing, Ended, Lacking, Stuck, Row, ◌>>=◌, ◌>>◌}
 
 -- what the operands, activations and cells do not hold: the paths of the loaded blocks, and what most rows do not change
 pub record World : Type 0 where
@@ -62,6 +67,11 @@ world_of paths m = record { paths = paths; objects = m.objects.items; files = m.
 
 abbrev pub state_of : (ℕ → Path) → Processor → State
 state_of paths m = shown (world_of paths m) m.store m.operands.items m.newest m.older.items m.at
+
+-- the cells of these operands, those of the first one first
+abbrev pub all_cells : List Operand → List Cell
+all_cells [] = []
+all_cells (x ∷ more) = cells_in x ++ all_cells more
 
 -- ---- agreement with the table
 
@@ -112,3 +122,54 @@ NoMemory (Err stop.Ended) = Unit {0}
 NoMemory (Err (stop.Missing path)) = Unit {0}
 NoMemory (Err stop.Stuck) = Unit {0}
 NoMemory (Err stop.Memory) = ⊥
+
+-- each activation's own operands begin where those of the next older one end, or above
+abbrev pub AreStacked : (bound : ℕ) → List Activation → Type 0
+AreStacked n [] = Unit {0}
+AreStacked n (a ∷ older) = (a.below ≤ n) × AreStacked a.below older
+
+-- what a processor keeps at hand is right
+pub record Sound (m : Processor) : Type 0 where
+  pub own : m.newest.below ≤ vec_len m.operands
+  pub stacked : AreStacked m.newest.below (reverse m.older.items)
+  pub counts : m.used ≡ sum_by (λ a. a.cells) (m.newest ∷ reverse m.older.items)
+  pub bound : m.used ≤ CELL_LIMIT
+
+-- the newest activation ends with the cell of its root as the result
+abbrev pub returned_with : (number offset : ℕ) → Row
+returned_with number o = do
+  x ← cell_of (record { root = number; offset = o })
+  leave_newest
+  y ← defined x
+  put_cell y
+
+-- the block of the path is missing, or memory is wanting to say so
+abbrev pub IsMissing : Path → Stop → Type 0
+IsMissing path (stop.Missing p) = p ≡ path
+IsMissing path stop.Memory = Unit {0}
+IsMissing path (stop.Fault n) = ⊥
+IsMissing path (stop.Limit n) = ⊥
+IsMissing path stop.Ended = ⊥
+IsMissing path stop.Stuck = ⊥
+
+-- where a block is missing, this holds
+abbrev pub WhereMissing : {A : Type 0} → Result A Stop → Type 0 → Type 0
+WhereMissing (Err (stop.Missing path)) P = P
+WhereMissing (Ok x) P = Unit {0}
+WhereMissing (Err (stop.Fault n)) P = Unit {0}
+WhereMissing (Err (stop.Limit n)) P = Unit {0}
+WhereMissing (Err stop.Ended) P = Unit {0}
+WhereMissing (Err stop.Stuck) P = Unit {0}
+WhereMissing (Err stop.Memory) P = Unit {0}
+
+-- whether the activation of a number is among these
+abbrev pub is_among : (number : ℕ) → List Activation → Bool
+is_among number all = list_any (λ a. nat_eq a.number number) all
+
+-- the blocks of these activations stand among so many loaded ones
+abbrev pub AreLoaded : ℕ → List Activation → Type 0
+AreLoaded n [] = Unit {0}
+AreLoaded n (a ∷ older) = (a.block < n) × AreLoaded n older
+
+pub record IsLoaded (count : ℕ) (m : Processor) : Type 0 where
+  pub blocks : AreLoaded count (m.newest ∷ reverse m.older.items)

@@ -13,14 +13,10 @@ use Rattle.mp_machine.specs.Outcomes.{Row, ◌>>=◌, ◌>>◌, fault, stuck, ch
 use Rattle.mp_machine.specs.declared.addresses.Address.{Address}
 use Rattle.mp_machine.specs.Operands.{put, put_cell, put_reference, take_cell, take_number, take_pointer, take_address}
 use Rattle.mp_machine.specs.Operands.{take_block}
-use Rattle.mp_machine.specs.Memory.{cell_of, cells_of, defined, set_cell, set_cells, undefined_cells, beyond, activation_at}
+use Rattle.mp_machine.specs.Memory.{cell_of, cells_of, defined, set_cell, set_cells, undefined_cells, beyond, offset_limit, reach, activation_at}
 use Rattle.mp_machine.specs.Memory.{object_at}
 
 -- ---- references
-
--- an offset has 32 bits
-abbrev pub offset_limit : ℕ
-offset_limit = 4294967296
 
 abbrev pub put_far : Address → Row
 put_far a = choose (nat_lt a.offset offset_limit) (put_reference a) stuck
@@ -104,11 +100,19 @@ abbrev pub is_tag_of : List ℤ → Cell → Bool
 is_tag_of constants (cell.Int n) = one_of n constants
 is_tag_of constants _ = false
 
+-- the tag becomes x, and so many cells behind it undefined
+abbrev pub set_tag : Address → Cell → (cells : ℕ) → Row
+set_tag a x n = do
+  set_cell a x
+  b ← reach a 1
+  set_cells b (undefined_cells n)
+
 -- Ref : Ref
 abbrev pub active : (offset : ℕ) → List ℤ → Row
 active o constants = do
   a ← take_address
-  tag ← cell_of (beyond a o)
+  b ← reach a o
+  tag ← cell_of b
   unless (is_tag_of constants tag) (fault 10)
   put_reference a
 
@@ -116,8 +120,9 @@ active o constants = do
 abbrev pub select : (offset : ℕ) → ℤ → List ℤ → (cells : ℕ) → Row
 select o constant constants n = do
   a ← take_address
-  tag ← cell_of (beyond a o)
-  unless (is_tag_of constants tag) (set_cells (beyond a o) (cell.Int constant ∷ undefined_cells n))
+  b ← reach a o
+  tag ← cell_of b
+  unless (is_tag_of constants tag) (set_tag b (cell.Int constant) n)
   put_reference a
 
 -- the old and the new value select the same variant
@@ -130,4 +135,4 @@ tag groups n = do
   x ← take_cell
   a ← take_address
   old ← cell_of a
-  choose (same_variant groups old x) (set_cell a x) (set_cells a (x ∷ undefined_cells n))
+  choose (same_variant groups old x) (set_cell a x) (set_tag a x n)

@@ -2,11 +2,13 @@
 ghost use Rattle.std.specs.Prelude.{◌≡◌, ℕ};
 ghost use Rattle.mp_machine.specs.Blocks.{Path as Steps};
 ghost use Rattle.mp_machine.specs.Memory as memory;
-ghost use Rattle.mp_machine.specs.Shown.{Agrees, NoMemory, Unmoved, state_of};
+ghost use Rattle.mp_machine.specs.Shown.{Agrees, Fits, NoMemory, Unmoved, state_of};
 
 use crate::addresses::Address;
 use crate::objects::Object;
+use crate::operands::Cells;
 use crate::processor::{Processor, Stop};
+use mp_base::Memory;
 use mp_memory::Cell;
 
 impl Processor {
@@ -31,6 +33,7 @@ impl Processor {
     pub(crate) fn set_cells(&mut self, a: Address, new: &[Cell]) -> Result<(), Stop>
         ensures row { (paths : ℕ → Steps) → Agrees (memory.set_cells a new.now (state_of paths self.old)) result (state_of paths self.new) }
         ensures kept { Unmoved self.old self.new }
+        ensures room { (n : ℕ) → Fits n self.old → Fits n self.new }
         ensures memory { NoMemory result }
     {
         if !self.store.is_live(a.root) {
@@ -46,6 +49,7 @@ impl Processor {
     pub(crate) fn set_cell(&mut self, a: Address, x: Cell) -> Result<(), Stop>
         ensures row { (paths : ℕ → Steps) → Agrees (memory.set_cell a x (state_of paths self.old)) result (state_of paths self.new) }
         ensures kept { Unmoved self.old self.new }
+        ensures room { (n : ℕ) → Fits n self.old → Fits n self.new }
         ensures memory { NoMemory result }
     {
         if self.store.set(a.root, a.offset, x) {
@@ -61,6 +65,7 @@ impl Processor {
     pub(crate) fn clear_cells(&mut self, a: Address, cells: u32) -> Result<(), Stop>
         ensures row { (paths : ℕ → Steps) → Agrees (memory.set_cells a (memory.undefined_cells cells) (state_of paths self.old)) result (state_of paths self.new) }
         ensures kept { Unmoved self.old self.new }
+        ensures room { (n : ℕ) → Fits n self.old → Fits n self.new }
         ensures memory { NoMemory result }
     {
         if self.store.clear(a.root, a.offset, cells) {
@@ -90,6 +95,44 @@ impl Processor {
                 Err(Stop::Fault(8))
             }
             None => Err(Stop::Stuck),
+        }
+    }
+
+    /// The place so many cells further, where a cell may stand.
+    #[inline(always)]
+    pub(crate) fn reach(&self, a: Address, cells: u32) -> Result<Address, Stop>
+        ensures row { (paths : ℕ → Steps) → Agrees (memory.reach a cells (state_of paths self.now)) result (state_of paths self.now) }
+        ensures memory { NoMemory result }
+    {
+        match a.offset.checked_add(cells) {
+            Some(offset) => Ok(Address {
+                root: a.root,
+                offset,
+            }),
+            None => {
+                if self.store.is_live(a.root) {
+                    return Err(Stop::Stuck);
+                }
+                Err(Stop::Fault(8))
+            }
+        }
+    }
+
+    /// So many cells from a reference on, as an operand.
+    pub(crate) fn cells_of(&self, a: Address, cells: u32) -> Result<Cells, Stop>
+        ensures row { (paths : ℕ → Steps) → Agrees (memory.cells_of a cells (state_of paths self.now)) result (state_of paths self.now) }
+    {
+        match self.store.part(a.root, a.offset, cells) {
+            Some(found) => match Cells::of(self.alloc, found) {
+                Ok(copied) => Ok(copied),
+                Err(Memory) => Err(Stop::Memory),
+            },
+            None => {
+                if self.store.is_live(a.root) {
+                    return Err(Stop::Stuck);
+                }
+                Err(Stop::Fault(8))
+            }
         }
     }
 }

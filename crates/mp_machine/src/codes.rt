@@ -1,9 +1,10 @@
 // The blocks whose code was loaded.
-ghost use Rattle.std.specs.Prelude.{◌≡◌, ◌∷◌, ◌++◌, [], None, IfNone, IfSome, OnErr, OnOk, length, option_copied, slice_get};
+ghost use Rattle.std.specs.Prelude.{◌≡◌, ◌∷◌, ◌++◌, [], ◌<◌, None, Some, IfNone, IfSome, OnErr, OnOk, length, option_copied, slice_get};
 ghost use Rattle.std.specs.Arc.{arc_value};
 ghost use Rattle.std.specs.Option.{option_map};
 ghost use Rattle.mp_code.specs.BlockCode.{BlockCode};
 ghost use Rattle.mp_machine.specs.Blocks.{depth, same_path};
+ghost use Rattle.mp_machine.specs.CallRows.{label_in};
 ghost use Rattle.mp_machine.specs.Loads.{IsFound, path_in, paths_of};
 ghost use Rattle.mp_machine.specs.States.{Loaded, code_of};
 
@@ -105,5 +106,29 @@ impl LoadedBlocks {
             }
         }
         None
+    }
+
+    /// The code of a block and its place, where it was loaded.
+    pub fn find_code(&self, path: &Path) -> Option<(usize, &Code)>
+        ensures place { IfSome result (λ found. paths_of self.now found.0 ≡ path.now) }
+        ensures within { IfSome result (λ found. found.0 < length self.now) }
+        ensures code { IfSome result (λ found. code_of self.now path.now ≡ Some found.1.now) }
+        ensures none { IfNone result (code_of self.now path.now ≡ None) }
+    {
+        match self.find(path) {
+            Some(place) => Some((place, &*self.blocks[place].code)),
+            None => None,
+        }
+    }
+
+    /// The index that a label of the block at a place stands at, where its code has the label.
+    pub fn label_at(&self, place: usize, label: u32) -> Option<u32>
+        requires { place < length self.now }
+        ensures { result ≡ label_in (code_of self.now (paths_of self.now place)) label }
+    {
+        match self.find_code(&self.blocks[place].path) {
+            Some((_, code)) => code.index_of_label(label),
+            None => None,
+        }
     }
 }

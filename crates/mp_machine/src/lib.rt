@@ -8,19 +8,25 @@
 mod activations;
 mod addresses;
 mod answers;
+mod calls;
 mod cells;
 mod codes;
 pub mod examples;
 mod frames;
 mod jumps;
 pub mod laws;
+mod machine;
 mod numbers;
+mod object_rows;
 mod objects;
 mod operands;
 mod processor;
 mod relations;
+mod sets;
 mod variables;
+mod variants;
 
 pub use answers::Gone;
+pub use machine::Machine;
 pub use objects::Object;
 pub use operands::{Cells, Operand};

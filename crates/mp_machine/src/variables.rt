@@ -3,10 +3,13 @@ ghost use Rattle.std.specs.Prelude.{◌≡◌, ◌+◌, ◌*◌, ◌-ℤ◌, ◌
 ghost use Rattle.mp_machine.specs.Blocks.{Path as Steps};
 ghost use Rattle.mp_machine.specs.Numbers.{natural};
 ghost use Rattle.mp_machine.specs.Shown.{Agrees, Fits, NoMemory, Unmoved, state_of};
+ghost use Rattle.mp_machine.specs.ValueRows as value;
 ghost use Rattle.mp_machine.specs.VariableRows as variable;
 
 use crate::addresses::Address;
+use crate::operands::{Cells, Operand};
 use crate::processor::{Processor, Stop};
+use mp_base::Memory;
 use mp_code::RequiredFile;
 use mp_memory::Cell;
 
@@ -163,5 +166,31 @@ impl Processor {
         let xs = self.take_block()?;
         let a = self.take_address()?;
         self.set_cells(a, xs.get())
+    }
+
+    /// Ref : block of so many cells from there
+    pub(crate) fn load_many(&mut self, cells: u32) -> Result<(), Stop>
+        ensures row { (paths : ℕ → Steps) → Agrees (variable.load_many cells (state_of paths self.old)) result (state_of paths self.new) }
+        ensures kept { Unmoved self.old self.new }
+    {
+        let a = self.take_address()?;
+        let block = self.cells_of(a, cells)?;
+        self.put(Operand::Block(block));
+        Ok(())
+    }
+
+    /// none : block of characters
+    pub(crate) fn characters(&mut self, bytes: &[u8]) -> Result<(), Stop>
+        requires { Fits 1 self.old }
+        ensures row { (paths : ℕ → Steps) → Agrees (value.chars bytes.now (state_of paths self.old)) result (state_of paths self.new) }
+        ensures kept { Unmoved self.old self.new }
+    {
+        match Cells::of_characters(self.alloc, bytes) {
+            Ok(block) => {
+                self.put(Operand::Block(block));
+                Ok(())
+            }
+            Err(Memory) => Err(Stop::Memory),
+        }
     }
 }
