@@ -309,10 +309,12 @@ module _ (R : State → State → Type 0) (P : Path → Type 0) (h : Keeping R) 
       choose_kept (int_lt j i) (put_kept _) (then_kept (unless_kept (may_be_member i && may_be_member j) (fault_kept 15))
       (put_kept _)))))
 
+  put_defined_kept : (o : Option Bool) → Kept (value.put_defined o)
+  put_defined_kept None = fault_kept 9
+  put_defined_kept (Some b) = put_kept _
+
   compare_strings_kept : (r : Relation) (xs ys : Option (List ℕ)) → Kept (value.compare_strings r xs ys)
-  compare_strings_kept r None ys = fault_kept 9
-  compare_strings_kept r (Some xs) None = fault_kept 9
-  compare_strings_kept r (Some xs) (Some ys) = put_kept _
+  compare_strings_kept r xs ys = put_defined_kept (value.string_relation r xs ys)
 
   compare_cells_kept : (r : Relation) (x y : Cell) → Kept (value.compare_cells r x y)
   compare_cells_kept r (cell.Int i) (cell.Int j) = put_kept _

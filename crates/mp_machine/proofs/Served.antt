@@ -275,10 +275,12 @@ span_uses = bind_uses take_number_uses (λ j. bind_uses take_number_uses (λ i. 
     choose_uses (int_lt j i) (put_uses _) (then_uses (unless_uses (may_be_member i && may_be_member j) (fault_uses 15))
     (put_uses _)))))
 
+put_defined_uses : {n : ℕ} (o : Option Bool) → Uses n (suc n) (value.put_defined o)
+put_defined_uses None = fault_uses 9
+put_defined_uses (Some b) = put_uses _
+
 compare_strings_uses : {n : ℕ} (r : Relation) (xs ys : Option (List ℕ)) → Uses n (suc n) (value.compare_strings r xs ys)
-compare_strings_uses r None ys = fault_uses 9
-compare_strings_uses r (Some xs) None = fault_uses 9
-compare_strings_uses r (Some xs) (Some ys) = put_uses _
+compare_strings_uses r xs ys = put_defined_uses (value.string_relation r xs ys)
 
 compare_cells_uses : {n : ℕ} (r : Relation) (x y : Cell) → Uses n (suc n) (value.compare_cells r x y)
 compare_cells_uses r (cell.Int i) (cell.Int j) = put_uses _

@@ -178,10 +178,18 @@ abbrev pub characters_of : List Cell → Option (List ℕ)
 characters_of [] = Some []
 characters_of (x ∷ more) = cons_character x (characters_of more)
 
+-- whether the relation stands between two strings, where all their characters are defined
+abbrev pub string_relation : Relation → Option (List ℕ) → Option (List ℕ) → Option Bool
+string_relation r None ys = None
+string_relation r (Some xs) None = None
+string_relation r (Some xs) (Some ys) = Some (holds r (comes_before xs ys) (bytes_eq xs ys))
+
+abbrev pub put_defined : Option Bool → Row
+put_defined None = fault 9
+put_defined (Some b) = put_truth b
+
 abbrev pub compare_strings : Relation → Option (List ℕ) → Option (List ℕ) → Row
-compare_strings r None ys = fault 9
-compare_strings r (Some xs) None = fault 9
-compare_strings r (Some xs) (Some ys) = put_truth (holds r (comes_before xs ys) (bytes_eq xs ys))
+compare_strings r xs ys = put_defined (string_relation r xs ys)
 
 abbrev pub compare_cells : Relation → Cell → Cell → Row
 compare_cells r (cell.Int i) (cell.Int j) = put_truth (holds r (int_lt i j) (same_number i j))
