@@ -1,10 +1,9 @@
 -- The table's actions on operands, in terms of the vector that holds them; and how actions follow one another.
-use Rattle.std.proofs.Common.{◌≡◌, ℕ, ◌+◌, ◌<◌, ◌≤◌, List, [], ◌∷◌, ◌++◌, length, map, reverse, take, drop, refl, sym, ◌∙◌, ap, subst}
+use Rattle.std.proofs.Common.{◌≡◌, ℕ, ◌≤◌, List, [], ◌∷◌, ◌++◌, length, reverse, take, drop, sym, ◌∙◌, ap}
+use Rattle.std.proofs.Common.{subst}
 use Rattle.std.proofs.lemmas.List.{reverse-append, drop-append-le, take-append-le}
-use Rattle.mp_memory.specs.declared.cells.Cell.{Cell}
 use Rattle.mp_memory.specs.Roots.{Contents, roots_of}
 use Rattle.mp_machine.specs.declared.operands.Operand.{Operand}
-use Rattle.mp_machine.specs.declared.operands.Operand.TheVariants.{One, Block}
 use Rattle.mp_machine.specs.declared.activations.Activation.{Activation}
 use Rattle.mp_machine.specs.declared.processor.Stop.{Stop}
 use Rattle.mp_machine.specs.declared.processor.Stop.TheVariants as stop
@@ -32,7 +31,8 @@ pub stuck_first : {A B : Type 0} (o : Outcome A) (go : A → State → Outcome B
 stuck_first o go h = stuck_bind o go h
 
 -- what stops an action stops all that begin with it
-pub stops_first : {A B : Type 0} (e : Stop) (o : Outcome A) (t : State) (go : A → State → Outcome B) → Stops e o t → Stops e (bind o go) t
+pub stops_first : {A B : Type 0} (e : Stop) (o : Outcome A) (t : State) (go : A → State → Outcome B) → Stops e o t →
+    Stops e (bind o go) t
 stops_first (stop.Fault n) o t go h = ap (λ o. bind o go) h
 stops_first (stop.Limit n) o t go h = ap (λ o. bind o go) h
 stops_first stop.Ended o t go h = ap (λ o. bind o go) h
@@ -40,16 +40,18 @@ stops_first (stop.Missing path) o t go h = ap (λ o. bind o go) h
 stops_first stop.Stuck o t go h = stuck_bind o go h
 stops_first stop.Memory o t go h = tt
 
-pub stops_then : {A B : Type 0} {o : Outcome A} {x : A} {s : State} (e : Stop) (t : State) (go : A → State → Outcome B) → o ≡ Done x s → Stops e (go x s) t → Stops e (bind o go) t
+pub stops_then : {A B : Type 0} {o : Outcome A} {x : A} {s : State} (e : Stop) (t : State) (go : A → State → Outcome B) →
+    o ≡ Done x s → Stops e (go x s) t → Stops e (bind o go) t
 stops_then e t go p h = subst (λ o. Stops e (bind o go) t) (sym p) h
 
 -- ---- operands
 
-operands_push : (n : ℕ) (xs : List Operand) (x : Operand) → n ≤ length xs → own_operands n (xs ++ x ∷ []) ≡ x ∷ own_operands n xs
+operands_push : (n : ℕ) (xs : List Operand) (x : Operand) → n ≤ length xs → own_operands n (xs ++ x ∷ []) ≡ x ∷
+    own_operands n xs
 operands_push n xs x l = ap reverse (drop-append-le n xs (x ∷ []) l) ∙ reverse-append (drop n xs) (x ∷ [])
 
 older_push : (paths : ℕ → Path) (older : List Activation) (n : ℕ) (xs : List Operand) (x : Operand) → n ≤ length xs
-  → frames_seen paths older (take n (xs ++ x ∷ [])) ≡ frames_seen paths older (take n xs)
+    → frames_seen paths older (take n (xs ++ x ∷ [])) ≡ frames_seen paths older (take n xs)
 older_push paths older n xs x l = ap (frames_seen paths older) (take-append-le n xs (x ∷ []) l)
 
 -- the state whose newest activation has these operands, above older frames
@@ -65,24 +67,31 @@ state_with w k a at ops older = record {
   at = at;
 }
 
-shown_push : (w : World) (k : Contents) (xs : List Operand) (x : Operand) (a : Activation) (older : List Activation) (at : ℕ) → a.below ≤ length xs
-  → shown w k (xs ++ x ∷ []) a older at ≡ state_with w k a at (x ∷ own_operands a.below xs) (frames_seen w.paths (reverse older) (take a.below xs))
+shown_push : (w : World) (k : Contents) (xs : List Operand) (x : Operand) (a : Activation) (older : List Activation) (at : ℕ) →
+    a.below ≤ length xs
+    → shown w k (xs ++ x ∷ []) a older at ≡ state_with w k a at (x ∷ own_operands a.below xs)
+    (frames_seen w.paths (reverse older) (take a.below xs))
 unfolding state_with
 shown_push w k xs x a older at l =
-    ap (λ o. state_with w k a at o (frames_seen w.paths (reverse older) (take a.below (xs ++ x ∷ [])))) (operands_push a.below xs x l)
-      ∙ ap (state_with w k a at (x ∷ own_operands a.below xs)) (older_push w.paths (reverse older) a.below xs x l)
+    ap (λ o. state_with w k a at o (frames_seen w.paths (reverse older) (take a.below (xs ++ x ∷ []))))
+    (operands_push a.below xs x l)
+    ∙ ap (state_with w k a at (x ∷ own_operands a.below xs)) (older_push w.paths (reverse older) a.below xs x l)
 
-pub put_shown : (w : World) (k : Contents) (xs : List Operand) (x : Operand) (a : Activation) (older : List Activation) (at : ℕ) → a.below ≤ length xs
-  → action.put x (shown w k xs a older at) ≡ Done tt (shown w k (xs ++ x ∷ []) a older at)
+pub put_shown : (w : World) (k : Contents) (xs : List Operand) (x : Operand) (a : Activation) (older : List Activation)
+    (at : ℕ) → a.below ≤ length xs
+    → action.put x (shown w k xs a older at) ≡ Done tt (shown w k (xs ++ x ∷ []) a older at)
 unfolding state_with
 put_shown w k xs x a older at l = ap (λ s. Done tt s) (sym (shown_push w k xs x a older at l))
 
-pub take_shown : (w : World) (k : Contents) (xs : List Operand) (x : Operand) (a : Activation) (older : List Activation) (at : ℕ) → a.below ≤ length xs
-  → action.take (shown w k (xs ++ x ∷ []) a older at) ≡ Done x (shown w k xs a older at)
+pub take_shown : (w : World) (k : Contents) (xs : List Operand) (x : Operand) (a : Activation) (older : List Activation)
+    (at : ℕ) → a.below ≤ length xs
+    → action.take (shown w k (xs ++ x ∷ []) a older at) ≡ Done x (shown w k xs a older at)
 unfolding state_with
 take_shown w k xs x a older at l = ap action.take (shown_push w k xs x a older at l)
 
-pub lacks_shown : (w : World) (k : Contents) (xs : List Operand) (a : Activation) (older : List Activation) (at : ℕ) → own_operands a.below xs ≡ []
-  → action.take (shown w k xs a older at) ≡ Lacking
+pub lacks_shown : (w : World) (k : Contents) (xs : List Operand) (a : Activation) (older : List Activation) (at : ℕ) →
+    own_operands a.below xs ≡ []
+    → action.take (shown w k xs a older at) ≡ Lacking
 unfolding state_with
-lacks_shown w k xs a older at e = ap (λ ops. action.take (state_with w k a at ops (frames_seen w.paths (reverse older) (take a.below xs)))) e
+lacks_shown w k xs a older at e = ap (λ ops. action.take
+    (state_with w k a at ops (frames_seen w.paths (reverse older) (take a.below xs)))) e

@@ -1,7 +1,7 @@
 -- Code that has its shape keeps its depths: by its clauses at the next instruction, and what the row uses.
 use Rattle.std.proofs.Common.{◌≡◌, ◌⊎◌, inl, inr, ⊎_elim, ℕ, suc, ◌+◌, ◌-◌, ◌<◌, ◌≤◌, List, [], ◌∷◌, ◌++◌, Option, Some, None}
 use Rattle.std.proofs.Common.{Bool, true, false, refl, sym, ap, ◌∙◌, subst, arith, eqb-true, eq-eqb, leb-true}
-use Rattle.std.specs.Prelude.{neg_ℤ, nat_eq, nat_le, nat_lt, not, ◌&&◌, ◌||◌, slice_get, length, map, ℤ, pos, int_lt, int_div}
+use Rattle.std.specs.Prelude.{nat_eq, nat_le, nat_lt, not, ◌&&◌, ◌||◌, slice_get, length, map, ℤ, pos, int_lt, int_div}
 use Rattle.std.specs.Prelude.{◌+ℤ◌, ◌-ℤ◌, ◌*ℤ◌}
 use Rattle.std.specs.List.{list_all, list_any}
 use Rattle.std.proofs.lemmas.Bool.{and_parts, or_parts, or_left, or_right}

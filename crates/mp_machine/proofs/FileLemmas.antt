@@ -1,5 +1,5 @@
 -- A call on a text file leaves what stands before the position: reading moves past items, and writing adds some.
-use Rattle.std.proofs.Common.{ℕ, List, [], ◌∷◌, ◌++◌, Bool, true, false, ℤ, refl, append_assoc}
+use Rattle.std.proofs.Common.{ℕ, List, ◌++◌, Bool, true, false, refl, append_assoc}
 use Rattle.std.specs.Prelude.{◌+◌, if◌then◌else◌, length, nat_lt, take}
 use Rattle.std.specs.List.{prefix_len}
 use Rattle.mp_base.specs.declared.limits.TheConstants.{MAXINT}

@@ -25,11 +25,16 @@ unmoved_two m n o a b = record {
 
 pub loaded_kept : (m n : Processor) (count : ℕ) → Unmoved m n → IsLoaded count m → IsLoaded count n
 loaded_kept m n count kept l = record {
-  blocks = (subst (λ b. b < count) (sym kept.block) l.blocks.0, subst (λ o. AreLoaded count (reverse o)) (sym kept.older) l.blocks.1);
+  blocks = (
+    subst (λ b. b < count) (sym kept.block) l.blocks.0,
+    subst (λ o. AreLoaded count (reverse o)) (sym kept.older)
+        l.blocks.1,
+  );
 }
 
 -- the activation of a number that is not the newest is older
-pub among_rest : (number : ℕ) (a : Activation) (older : List Activation) → (a.number ≡ number → ⊥) → is_among number (a ∷ older) ≡ true → is_among number older ≡ true
+pub among_rest : (number : ℕ) (a : Activation) (older : List Activation) → (a.number ≡ number → ⊥) →
+    is_among number (a ∷ older) ≡ true → is_among number older ≡ true
 among_rest number a older other h = by_first (nat_eq a.number number) refl h
   where
     by_first : (b : Bool) → nat_eq a.number number ≡ b → (b || is_among number older) ≡ true → is_among number older ≡ true
@@ -39,7 +44,8 @@ among_rest number a older other h = by_first (nat_eq a.number number) refl h
 pub left_more : (number : ℕ) (s : State) (f : Frame) (older : List Frame) → (f.activation.number ≡ number → ⊥) →
     left_until number s (f ∷ older) ≡ left_until number (without_newest s (f ∷ older)) older
 left_more number s f older other =
-    ap (λ b. elim b as (λ is. State) [ true ↦ s | false ↦ left_until number (without_newest s (f ∷ older)) older ]) (ne_eqb f.activation.number number other)
+    ap (λ b. elim b as (λ is. State) [ true ↦ s | false ↦ left_until number (without_newest s (f ∷ older)) older ])
+    (ne_eqb f.activation.number number other)
 
 state_in : Outcome (Unit {0}) → State → State
 state_in (Done x t) s = t
@@ -51,7 +57,18 @@ state_in Lacking s = s
 state_in Stuck s = s
 
 pub left_step : (number : ℕ) (s t : State) (f : Frame) (older : List Frame) → (f.activation.number ≡ number → ⊥) →
-    Done (tt {0}) (without_newest s (f ∷ older)) ≡ Done (tt {0}) t → left_until number t t.frames ≡ left_until number s (f ∷ older)
+    Done (tt {0}) (without_newest s (f ∷ older)) ≡ Done (tt {0}) t → left_until number t t.frames ≡ left_until number s (f ∷
+    older)
 unfolding state_in
 left_step number s t f older other e =
     sym (left_more number s f older other ∙ ap (λ u. left_until number u u.frames) (ap (λ o. state_in o s) e))
+
+pub loaded_alike : (m n : Processor) (count : ℕ) → n.newest ≡ m.newest → n.older.items ≡ m.older.items → IsLoaded count m →
+    IsLoaded count n
+loaded_alike m n count same alike l = record {
+  blocks = (
+    subst (λ a. a.block < count) (sym same) l.blocks.0,
+    subst (λ o. AreLoaded count (reverse o)) (sym alike)
+        l.blocks.1,
+  );
+}

@@ -1,13 +1,14 @@
 -- Sets as lists of their members: what a row asks of each member, and what a set with more members is.
-use Rattle.std.proofs.Common.{◌≡◌, ◌≢◌, ℕ, zero, suc, ◌+◌, ◌-◌, ◌<◌, ◌≤◌, List, [], ◌∷◌, ◌++◌, filter, cond, Bool, true, false, ◌&&◌, ◌||◌}
-use Rattle.std.proofs.Common.{refl, sym, ap, subst, ◌∙◌, arith, pos, negsuc, ℤ}
+use Rattle.std.proofs.Common.{◌≡◌, ◌≢◌, ℕ, zero, suc, ◌+◌, ◌-◌, ◌<◌, ◌≤◌, List, [], ◌∷◌, ◌++◌, filter, cond, Bool, true, false}
+use Rattle.std.proofs.Common.{◌&&◌, ◌||◌}
+use Rattle.std.proofs.Common.{refl, sym, ap, ◌∙◌, arith, pos, negsuc, ℤ}
 use Rattle.std.specs.Prelude.{int_lt, nat_eq}
-use Rattle.std.specs.List.{list_all, list_any, range_with_len}
+use Rattle.std.specs.List.{list_all, range_with_len}
 use Rattle.std.proofs.lemmas.Bool.Decides.{nat_tests}
 use Rattle.std.proofs.lemmas.Bool.{and_parts, eqb-true, eq-eqb, ne_eqb}
 use Rattle.std.proofs.lemmas.List.Elements.{filter-append}
 use Rattle.std.proofs.lemmas.List.Folds.{list_any-append}
-use Rattle.mp_memory.specs.Sets.{IsSet, is_member, members_that, numbers, union, with_member}
+use Rattle.mp_memory.specs.Sets.{IsSet, is_member, numbers, union, with_member}
 use Rattle.mp_machine.specs.Numbers.{lies_in, may_be_member, members_lie_in, natural, numbers_from, stands_in}
 use Rattle.mp_machine.specs.States.{State}
 use Rattle.mp_machine.specs.Outcomes.{Done, bind, choose, fault, unless, ◌>>◌}
@@ -34,10 +35,12 @@ one_that t n m = by_test (t m)
         by_same false = refl
     by_test false = refl
 
-member_more : (t : ℕ → Bool) (n m : ℕ) → is_member n (filter t (numbers (suc m))) ≡ (is_member n (filter t (numbers m)) || (t m && nat_eq n m))
+member_more : (t : ℕ → Bool) (n m : ℕ) → is_member n (filter t (numbers (suc m))) ≡ (is_member n (filter t (numbers m)) ||
+    (t m && nat_eq n m))
 member_more t n m =
     ap (λ l. is_member n (filter t l)) (numbers_more m) ∙ ap (is_member n) (filter-append t (numbers m) (m ∷ []))
-    ∙ list_any-append (nat_eq n) (filter t (numbers m)) (filter t (m ∷ [])) ∙ ap (λ b. is_member n (filter t (numbers m)) || b) (one_that t n m)
+    ∙ list_any-append (nat_eq n) (filter t (numbers m)) (filter t (m ∷ [])) ∙ ap (λ b. is_member n (filter t (numbers m)) ||
+    b) (one_that t n m)
 
 and_false : (b : Bool) → (b && false) ≡ false
 and_false true = refl
@@ -62,7 +65,8 @@ that_has : (t : ℕ → Bool) (m n : ℕ) → n < m → is_member n (filter t (n
 that_has t zero n l = absurd (omega (arith, l))
 that_has t (suc m) n l = by_same (nat_eq n m) refl (λ k. that_has t m n k)
   where
-    by_same : (b : Bool) → nat_eq n m ≡ b → (n < m → is_member n (filter t (numbers m)) ≡ t n) → is_member n (filter t (numbers (suc m))) ≡ t n
+    by_same : (b : Bool) → nat_eq n m ≡ b → (n < m → is_member n (filter t (numbers m)) ≡ t n) →
+        is_member n (filter t (numbers (suc m))) ≡ t n
     by_same true e below =
         let same : n ≡ m = eqb-true n m e in
         member_more t n m ∙ ap (λ b. b || (t m && nat_eq n m)) (none_from t m n (omega (arith, same)))
@@ -83,33 +87,41 @@ member_small set n is l = ap (is_member n) (sym is) ∙ none_from (λ k. is_memb
 and_both : (a b : Bool) → a ≡ true → b ≡ true → (a && b) ≡ true
 and_both a b e f = ap (λ c. c && b) e ∙ f
 
-all_both : (test : ℕ → Bool) (xs ys : List ℕ) → list_all test xs ≡ true → list_all test ys ≡ true → list_all test (xs ++ ys) ≡ true
+all_both : (test : ℕ → Bool) (xs ys : List ℕ) → list_all test xs ≡ true → list_all test ys ≡ true →
+    list_all test (xs ++ ys) ≡ true
 all_both test [] ys a b = b
 all_both test (x ∷ xs) ys a b =
     let parts = and_parts (test x) (list_all test xs) a in
     and_both (test x) (list_all test (xs ++ ys)) parts.0 (all_both test xs ys parts.1 b)
 
-all_that : (t test : ℕ → Bool) (m : ℕ) → ((n : ℕ) → n < m → t n ≡ true → test n ≡ true) → list_all test (filter t (numbers m)) ≡ true
+all_that : (t test : ℕ → Bool) (m : ℕ) → ((n : ℕ) → n < m → t n ≡ true → test n ≡ true) →
+    list_all test (filter t (numbers m)) ≡ true
 all_that t test zero h = ap (λ l. list_all test (filter t l)) numbers_none
 all_that t test (suc m) h =
     ap (λ l. list_all test (filter t l)) (numbers_more m) ∙ ap (list_all test) (filter-append t (numbers m) (m ∷ []))
-    ∙ all_both test (filter t (numbers m)) (filter t (m ∷ [])) (all_that t test m (λ n l p. h n (omega (arith, l)) p)) (last (t m) refl)
+    ∙ all_both test (filter t (numbers m)) (filter t (m ∷ [])) (all_that t test m (λ n l p. h n (omega (arith, l)) p))
+    (last (t m) refl)
   where
     last : (b : Bool) → t m ≡ b → list_all test (cond b (m ∷ []) []) ≡ true
     last true e = ap (λ c. c && true) (h m (omega arith) e)
     last false e = refl
 
-pub all_lie : (low high : ℤ) (set : List ℕ) → IsSet set → ((n : ℕ) → n < 256 → is_member n set ≡ true → lies_in low high (pos n) ≡ true) →
+pub all_lie : (low high : ℤ) (set : List ℕ) → IsSet set → ((n : ℕ) → n < 256 → is_member n set ≡ true → lies_in
+    low high (pos n) ≡ true) →
     members_lie_in low high set ≡ true
-all_lie low high set is h = ap (members_lie_in low high) (sym is) ∙ all_that (λ n. is_member n set) (λ n. lies_in low high (pos n)) 256 h
+all_lie low high set is h = ap (members_lie_in low high) (sym is) ∙ all_that (λ n. is_member n set) (λ n. lies_in
+    low high (pos n)) 256 h
 
-pub not_all_lie : (low high : ℤ) (set : List ℕ) (n : ℕ) → is_member n set ≡ true → lies_in low high (pos n) ≡ false → members_lie_in low high set ≡ false
+pub not_all_lie : (low high : ℤ) (set : List ℕ) (n : ℕ) → is_member n set ≡ true → lies_in low high (pos n) ≡ false →
+    members_lie_in low high set ≡ false
 not_all_lie low high [] n m f = absurd (let v : ⊥ = cc in v)
 not_all_lie low high (x ∷ xs) n m f = by_same (nat_eq n x) refl m (λ m. not_all_lie low high xs n m f)
   where
-    by_same : (b : Bool) → nat_eq n x ≡ b → (b || is_member n xs) ≡ true → (is_member n xs ≡ true → members_lie_in low high xs ≡ false) →
+    by_same : (b : Bool) → nat_eq n x ≡ b → (b || is_member n xs) ≡ true → (is_member n xs ≡ true → members_lie_in
+        low high xs ≡ false) →
         (lies_in low high (pos x) && members_lie_in low high xs) ≡ false
-    by_same true e m more = ap (λ k. lies_in low high (pos k) && members_lie_in low high xs) (sym (eqb-true n x e)) ∙ ap (λ b. b && members_lie_in low high xs) f
+    by_same true e m more = ap (λ k. lies_in low high (pos k) && members_lie_in low high xs) (sym (eqb-true n x e)) ∙
+        ap (λ b. b && members_lie_in low high xs) f
     by_same false e m more = ap (λ b. lies_in low high (pos x) && b) (more m) ∙ and_false (lies_in low high (pos x))
 
 -- ---- sets with more members
@@ -133,10 +145,12 @@ or_assoc false b c = refl
 pub union_more : (set : List ℕ) (first n : ℕ) →
     with_member (union set (range_with_len first n)) (first + n) ≡ union set (range_with_len first (n + 1))
 union_more set first n = filter_same _ _ 256 (λ k l.
-    ap (λ b. b || is_member k ((first + n) ∷ [])) (that_has (λ k. is_member k set || is_member k (range_with_len first n)) 256 k l)
+    ap (λ b. b || is_member k ((first + n) ∷ [])) (that_has (λ k. is_member k set || is_member k (range_with_len first n)) 256
+    k l)
     ∙ or_assoc (is_member k set) (is_member k (range_with_len first n)) (is_member k ((first + n) ∷ []))
-    ∙ sym (ap (λ b. is_member k set || b) (ap (λ m. is_member k (range_with_len first m)) (one_more n) ∙ ap (is_member k) (range_more first n)
-      ∙ list_any-append (nat_eq k) (range_with_len first n) ((first + n) ∷ []))))
+    ∙ sym (ap (λ b. is_member k set || b) (ap (λ m. is_member k (range_with_len first m)) (one_more n) ∙
+    ap (is_member k) (range_more first n)
+    ∙ list_any-append (nat_eq k) (range_with_len first n) ((first + n) ∷ []))))
   where
     one_more : (n : ℕ) → n + 1 ≡ suc n
     one_more n = omega arith
@@ -144,7 +158,8 @@ union_more set first n = filter_same _ _ 256 (λ k l.
 pub union_none : (set : List ℕ) → IsSet set → union set [] ≡ set
 union_none set is = filter_same _ _ 256 (λ k l. or_false (is_member k set)) ∙ is
 
-pub with_next : (set all after : List ℕ) (first member : ℕ) → all ≡ union set (range_with_len first (member - first)) → first ≤ member →
+pub with_next : (set all after : List ℕ) (first member : ℕ) → all ≡ union set (range_with_len first (member - first)) →
+    first ≤ member →
     after ≡ with_member all member → after ≡ union set (range_with_len first (member + 1 - first))
 with_next set all after first member is l e =
     e ∙ ap (λ a. with_member a member) is
@@ -165,16 +180,21 @@ stands_nowhere (negsuc n) set is outside = refl
 -- ---- the rows
 
 pub one_shown : (i : ℤ) (set made : List ℕ) (s t : State) → may_be_member i ≡ true → made ≡ with_member set (natural i) →
-    put_members made s ≡ Done tt t → bind (unless (may_be_member i) (fault 15) s) (λ x u. put_members (with_member set (natural i)) u) ≡ Done tt t
+    put_members made s ≡ Done tt t → bind (unless (may_be_member i) (fault 15) s)
+    (λ x u. put_members (with_member set (natural i)) u) ≡ Done tt t
 one_shown i set made s t may is row =
-    ap (λ b. bind (unless b (fault 15) s) (λ x u. put_members (with_member set (natural i)) u)) may ∙ ap (λ m. put_members m s) (sym is) ∙ row
+    ap (λ b. bind (unless b (fault 15) s) (λ x u. put_members (with_member set (natural i)) u)) may ∙
+    ap (λ m. put_members m s) (sym is) ∙ row
 
-pub span_shown : (i j : ℤ) (set made : List ℕ) (s t : State) → int_lt j i ≡ false → may_be_member i ≡ true → may_be_member j ≡ true →
+pub span_shown : (i j : ℤ) (set made : List ℕ) (s t : State) → int_lt j i ≡ false → may_be_member i ≡ true →
+    may_be_member j ≡ true →
     made ≡ union set (numbers_from (natural i) (natural j)) → put_members made s ≡ Done tt t →
     choose (int_lt j i) (put_members set) (unless (may_be_member i && may_be_member j) (fault 15) >>
-      put_members (union set (numbers_from (natural i) (natural j)))) s ≡ Done tt t
+    put_members (union set (numbers_from (natural i) (natural j)))) s ≡ Done tt t
 span_shown i j set made s t order may be is row =
-    ap (λ b. choose b (put_members set) (unless (may_be_member i && may_be_member j) (fault 15) >> put_members (union set (numbers_from (natural i) (natural j)))) s) order
-    ∙ ap (λ b. (unless (b && may_be_member j) (fault 15) >> put_members (union set (numbers_from (natural i) (natural j)))) s) may
+    ap (λ b. choose b (put_members set) (unless (may_be_member i && may_be_member j) (fault 15) >> put_members
+    (union set (numbers_from (natural i) (natural j)))) s) order
+    ∙ ap (λ b. (unless (b && may_be_member j) (fault 15) >> put_members (union set (numbers_from (natural i) (natural j)))) s)
+    may
     ∙ ap (λ b. (unless b (fault 15) >> put_members (union set (numbers_from (natural i) (natural j)))) s) be
     ∙ ap (λ m. put_members m s) (sym is) ∙ row

@@ -1,5 +1,6 @@
 -- Paths that are the same, and the loaded blocks that are found by them.
-use Rattle.std.proofs.Common.{◌≡◌, ◌&&◌, ℕ, ◌+◌, ◌<◌, Bool, true, false, List, [], ◌∷◌, drop, length, map, get_or, Option, Some, None, refl, sym, ◌∙◌, ap, arith}
+use Rattle.std.proofs.Common.{◌≡◌, ◌&&◌, ℕ, ◌+◌, ◌<◌, true, false, List, [], ◌∷◌, drop, length, map, get_or, Option, Some}
+use Rattle.std.proofs.Common.{refl, sym, ◌∙◌, ap, arith}
 use Rattle.std.specs.Prelude.{bytes_eq, nat_eq, slice_get}
 use Rattle.std.proofs.lemmas.List.{drop_more}
 use Rattle.std.proofs.lemmas.Option.{slice_get_within, get_or_from_slice_get, slice_get_read, slice_get-map}
@@ -7,7 +8,6 @@ use Rattle.std.specs.Arc.{arc_value}
 use Rattle.std.specs.Option.{option_map}
 use Rattle.std.proofs.lemmas.Bool.{and_parts, eqb-true}
 use Rattle.std.proofs.lemmas.Slice.Eq.{bytes_eq-Decides}
-use Rattle.mp_base.specs.declared.path.PathStep.{PathStep}
 use Rattle.mp_code.specs.BlockCode.{BlockCode}
 use Rattle.mp_machine.specs.Blocks.{Path, same_path}
 use Rattle.mp_machine.specs.declared.codes.LoadedBlock.{LoadedBlock}
@@ -30,9 +30,11 @@ same_path_is (s ∷ p) (t ∷ q) e =
     λ i. record { name = name i; nth = nth i } ∷ more i
 
 drop_one : (codes : Codes) (k : ℕ) (l : Loaded) → slice_get codes k ≡ Some l → drop k codes ≡ l ∷ drop (k + 1) codes
-drop_one codes k l e = drop_more codes k l (slice_get_within codes k l e) ∙ ap (λ x. x ∷ drop (k + 1) codes) (get_or_from_slice_get codes k l l e)
+drop_one codes k l e = drop_more codes k l (slice_get_within codes k l e) ∙
+    ap (λ x. x ∷ drop (k + 1) codes) (get_or_from_slice_get codes k l l e)
 
-pub found_there : (codes : Codes) (path : Path) (k : ℕ) (l : Loaded) → slice_get codes k ≡ Some l → same_path l.path path ≡ true →
+pub found_there : (codes : Codes) (path : Path) (k : ℕ) (l : Loaded) → slice_get codes k ≡ Some l →
+    same_path l.path path ≡ true →
     code_of (drop k codes) path ≡ code_of codes path → IsFound codes path k
 found_there codes path k l there same left = record {
   code = l.code;
@@ -44,17 +46,27 @@ found_there codes path k l there same left = record {
 -- the block at a place, among those that the machine keeps
 stands_there : (blocks : List LoadedBlock) (k : ℕ) (b : LoadedBlock) → k < length blocks → b ≡ get_or blocks k b →
     slice_get (map loaded_by blocks) k ≡ Some (loaded_by b)
-stands_there blocks k b inside is = slice_get-map loaded_by blocks k ∙ ap (option_map loaded_by) (slice_get_read blocks (length blocks) k b refl inside is)
+stands_there blocks k b inside is = slice_get-map loaded_by blocks k ∙
+    ap (option_map loaded_by) (slice_get_read blocks (length blocks) k b refl inside is)
 
-pub found_by : (codes : Codes) (blocks : List LoadedBlock) (path : Path) (k : ℕ) (b : LoadedBlock) → codes ≡ map loaded_by blocks →
-    k < length blocks → b ≡ get_or blocks k b → same_path b.path path ≡ true → code_of (drop k codes) path ≡ code_of codes path → IsFound codes path k
+pub found_by : (codes : Codes) (blocks : List LoadedBlock) (path : Path) (k : ℕ) (b : LoadedBlock) →
+    codes ≡ map loaded_by blocks →
+    k < length blocks → b ≡ get_or blocks k b → same_path b.path path ≡ true → code_of (drop k codes) path ≡ code_of codes
+    path → IsFound codes path k
 found_by codes blocks path k b view inside is same left =
     found_there codes path k (loaded_by b) (ap (λ l. slice_get l k) view ∙ stands_there blocks k b inside is) same left
 
-pub not_there : (codes : Codes) (blocks : List LoadedBlock) (path : Path) (k : ℕ) (b : LoadedBlock) → codes ≡ map loaded_by blocks →
-    k < length blocks → b ≡ get_or blocks k b → same_path b.path path ≡ false → code_of (drop k codes) path ≡ code_of codes path →
+pub not_there : (codes : Codes) (blocks : List LoadedBlock) (path : Path) (k : ℕ) (b : LoadedBlock) →
+    codes ≡ map loaded_by blocks →
+    k < length blocks → b ≡ get_or blocks k b → same_path b.path path ≡ false → code_of (drop k codes) path ≡ code_of codes
+    path →
     code_of (drop (k + 1) codes) path ≡ code_of codes path
 not_there codes blocks path k b view inside is other left =
-    sym (ap (λ rest. code_of rest path) (drop_one codes k (loaded_by b) (ap (λ l. slice_get l k) view ∙ stands_there blocks k b inside is))
-      ∙ ap (λ t. elim t as (λ is. Option BlockCode) [ true ↦ Some (arc_value b.code) | false ↦ code_of (drop (k + 1) codes) path ]) other)
+    sym (ap (λ rest. code_of rest path) (drop_one codes k (loaded_by b) (ap (λ l. slice_get l k) view ∙
+    stands_there blocks k b inside is))
+    ∙ ap (λ t. elim t as (λ is. Option BlockCode) [
+      | true ↦ Some (arc_value b.code)
+      | false ↦
+          code_of (drop (k + 1) codes) path
+    ]) other)
     ∙ left

@@ -3,7 +3,7 @@
 use Rattle.std.proofs.Common.{◌≡◌, ℕ, zero, suc, ◌+◌, ◌*◌, List, [], ◌∷◌, ◌++◌, Option, Some, None, Bool, true, false, refl}
 use Rattle.std.proofs.Common.{sym, ap, subst}
 use Rattle.std.specs.Prelude.{nat_eq, nat_le, nat_lt, ◌&&◌, slice_get, slice_set, length, map, ℤ, pos, ◌+ℤ◌, ◌-ℤ◌, ◌*ℤ◌, int_lt}
-use Rattle.std.specs.Prelude.{int_le, int_div}
+use Rattle.std.specs.Prelude.{int_div}
 use Rattle.mp_code.specs.declared.instructions.Operation.{Operation}
 use Rattle.mp_code.specs.declared.instructions.Operation.TheVariants as operation
 use Rattle.mp_code.specs.declared.instructions.FileOperation.{FileOperation}
@@ -369,11 +369,13 @@ module _ (R : State → State → Type 0) (P : Path → Type 0) (h : Keeping R) 
   set_tag_kept a x n = then_kept (set_cell_kept a x) (bind_kept (reach_kept a 1) (λ b. set_cells_kept b (undefined_cells n)))
 
   active_kept : (o : ℕ) (constants : List ℤ) → Kept (variable.active o constants)
-  active_kept o constants = bind_kept take_address_kept (λ a. bind_kept (reach_kept a o) (λ b. bind_kept (cell_of_kept b) (λ tag.
+  active_kept o constants = bind_kept take_address_kept
+      (λ a. bind_kept (reach_kept a o) (λ b. bind_kept (cell_of_kept b) (λ tag.
       then_kept (unless_kept (variable.is_tag_of constants tag) (fault_kept 10)) (put_kept _))))
 
   select_kept : (o : ℕ) (constant : ℤ) (constants : List ℤ) (n : ℕ) → Kept (variable.select o constant constants n)
-  select_kept o constant constants n = bind_kept take_address_kept (λ a. bind_kept (reach_kept a o) (λ b. bind_kept (cell_of_kept b) (λ tag.
+  select_kept o constant constants n = bind_kept take_address_kept
+      (λ a. bind_kept (reach_kept a o) (λ b. bind_kept (cell_of_kept b) (λ tag.
       then_kept (unless_kept (variable.is_tag_of constants tag) (set_tag_kept b (cell.Int constant) n)) (put_kept _))))
 
   tag_kept : (groups : List Group) (n : ℕ) → Kept (variable.tag groups n)
@@ -503,7 +505,8 @@ module _ (R : State → State → Type 0) (P : Path → Type 0) (h : Keeping R) 
   on_file_kept a operation g = bind_kept (file_number_kept a) (λ k. result_kept k operation g)
 
   renew_kept : (a : Address) → Kept (files.renew_buffer a)
-  renew_kept a = bind_kept (ask_kept a (λ f. Gives (shown f) f)) (λ x. bind_kept (reach_kept a 1) (λ b. set_cell_kept b (files.buffer_cell x)))
+  renew_kept a = bind_kept (ask_kept a (λ f. Gives (shown f) f))
+      (λ x. bind_kept (reach_kept a 1) (λ b. set_cell_kept b (files.buffer_cell x)))
 
   choose_by : {A : Type 0} (b : Bool) {m o : Action A} → (b ≡ true → Kept m) → (b ≡ false → Kept o) → Kept (choose b m o)
   choose_by true f g = record { by = λ s. (f refl).by s }
@@ -555,7 +558,8 @@ module _ (R : State → State → Type 0) (P : Path → Type 0) (h : Keeping R) 
   write_bytes_kept a bytes = write_to_kept a (map Character bytes)
 
   put_file_kept : Kept files.put_file
-  put_file_kept = bind_kept take_address_kept (λ a. then_kept (must_write_kept a) (bind_kept (reach_kept a 1) (λ b. bind_kept (cell_of_kept b)
+  put_file_kept = bind_kept take_address_kept (λ a. then_kept (must_write_kept a)
+      (bind_kept (reach_kept a 1) (λ b. bind_kept (cell_of_kept b)
       (λ x. bind_kept (defined_kept x) (λ y. bind_kept (number_kept y) (λ n.
       then_kept (write_bytes_kept a (natural n ∷ [])) (renew_kept a)))))))
 
@@ -582,7 +586,8 @@ module _ (R : State → State → Type 0) (P : Path → Type 0) (h : Keeping R) 
       (λ w. character_field w bytes)))))
 
   read_char_kept : Kept files.read_char
-  read_char_kept = bind_kept take_address_kept (λ a. then_kept (must_read_kept a) (bind_kept (reach_kept a 1) (λ b. bind_kept (cell_of_kept b)
+  read_char_kept = bind_kept take_address_kept (λ a. then_kept (must_read_kept a)
+      (bind_kept (reach_kept a 1) (λ b. bind_kept (cell_of_kept b)
       (λ x. bind_kept (defined_kept x) (λ y. then_kept (get_at_kept a) (put_kept (One y)))))))
 
   file_row_kept : (o : FileOperation) → Kept (files.file_row o)

@@ -1,7 +1,7 @@
 -- How many operands each row takes and puts: with as many as it takes, none wants for one.
 use Rattle.std.proofs.Common.{◌≡◌, ℕ, zero, suc, ◌+◌, ◌*◌, List, [], ◌∷◌, ◌++◌, Option, Some, None, Bool, true, false, refl}
 use Rattle.std.proofs.Common.{sym, ap, ◌∙◌, subst, arith}
-use Rattle.std.specs.Prelude.{nat_le, nat_lt, ◌&&◌, slice_get, slice_set, length, map, ℤ, pos, ◌-ℤ◌, int_lt, int_le}
+use Rattle.std.specs.Prelude.{nat_le, nat_lt, ◌&&◌, slice_get, slice_set, length, map, ℤ, ◌-ℤ◌, int_lt}
 use Rattle.mp_code.specs.declared.instructions.FileOperation.{FileOperation}
 use Rattle.mp_code.specs.declared.instructions.FileOperation.TheVariants as file
 use Rattle.mp_code.specs.declared.instructions.Relation.{Relation}
@@ -332,7 +332,8 @@ pub store_many_uses : {n : ℕ} (count : ℕ) → Uses (suc (suc n)) n (variable
 store_many_uses count = bind_uses take_block_uses (λ xs. bind_uses take_address_uses (λ a. set_cells_uses a xs))
 
 set_tag_uses : {n : ℕ} (a : Address) (x : Cell) (count : ℕ) → Uses n n (variable.set_tag a x count)
-set_tag_uses a x count = then_uses (set_cell_uses a x) (bind_uses (reach_uses a 1) (λ b. set_cells_uses b (undefined_cells count)))
+set_tag_uses a x count = then_uses (set_cell_uses a x)
+    (bind_uses (reach_uses a 1) (λ b. set_cells_uses b (undefined_cells count)))
 
 pub active_uses : {n : ℕ} (o : ℕ) (constants : List ℤ) → Uses (suc n) (suc n) (variable.active o constants)
 active_uses o constants = bind_uses take_address_uses (λ a. bind_uses (reach_uses a o) (λ b. bind_uses (cell_of_uses b) (λ tag.
@@ -340,7 +341,8 @@ active_uses o constants = bind_uses take_address_uses (λ a. bind_uses (reach_us
 
 pub select_uses : {n : ℕ} (o : ℕ) (constant : ℤ) (constants : List ℤ) (count : ℕ) →
     Uses (suc n) (suc n) (variable.select o constant constants count)
-select_uses o constant constants count = bind_uses take_address_uses (λ a. bind_uses (reach_uses a o) (λ b. bind_uses (cell_of_uses b) (λ tag.
+select_uses o constant constants count =
+    bind_uses take_address_uses (λ a. bind_uses (reach_uses a o) (λ b. bind_uses (cell_of_uses b) (λ tag.
     then_uses (unless_uses (variable.is_tag_of constants tag) (set_tag_uses b (cell.Int constant) count)) (put_uses _))))
 
 pub tag_uses : {n : ℕ} (groups : List Group) (count : ℕ) → Uses (suc (suc n)) n (variable.tag groups count)
@@ -405,7 +407,8 @@ on_file_uses : {A : Type 0} {n : ℕ} (a : Address) (operation : TextFile → Fi
 on_file_uses a operation = bind_uses (file_number_uses a) (λ k. bind_uses (file_of_uses k) (λ f. result_uses k (operation f)))
 
 renew_uses : {n : ℕ} (a : Address) → Uses n n (files.renew_buffer a)
-renew_uses a = bind_uses (ask_uses a (λ f. Gives (shown f) f)) (λ x. bind_uses (reach_uses a 1) (λ b. set_cell_uses b (files.buffer_cell x)))
+renew_uses a = bind_uses (ask_uses a (λ f. Gives (shown f) f))
+    (λ x. bind_uses (reach_uses a 1) (λ b. set_cell_uses b (files.buffer_cell x)))
 
 make_file_uses : {n : ℕ} (a : Address) (k : Option ℕ) (f : TextFile) → Uses n n (files.make_file a k f)
 make_file_uses a (Some k) f = set_file_uses (Some k) f
@@ -435,7 +438,8 @@ write_bytes_uses : {n : ℕ} (a : Address) (bytes : List ℕ) → Uses n n (file
 write_bytes_uses a bytes = write_to_uses a (map Character bytes)
 
 put_file_uses : {n : ℕ} → Uses (suc n) n files.put_file
-put_file_uses = bind_uses take_address_uses (λ a. then_uses (must_write_uses a) (bind_uses (reach_uses a 1) (λ b. bind_uses (cell_of_uses b)
+put_file_uses = bind_uses take_address_uses (λ a. then_uses (must_write_uses a)
+    (bind_uses (reach_uses a 1) (λ b. bind_uses (cell_of_uses b)
     (λ x. bind_uses (defined_uses x) (λ y. bind_uses (number_uses y) (λ i.
     then_uses (write_bytes_uses a (natural i ∷ [])) (renew_uses a)))))))
 
@@ -462,7 +466,8 @@ write_chars_uses = bind_uses take_number_uses (λ width. bind_uses take_block_us
     (λ w. character_field w bytes)))))
 
 read_char_uses : {n : ℕ} → Uses (suc n) (suc n) files.read_char
-read_char_uses = bind_uses take_address_uses (λ a. then_uses (ask_uses a _) (bind_uses (reach_uses a 1) (λ b. bind_uses (cell_of_uses b)
+read_char_uses = bind_uses take_address_uses
+    (λ a. then_uses (ask_uses a _) (bind_uses (reach_uses a 1) (λ b. bind_uses (cell_of_uses b)
     (λ x. bind_uses (defined_uses x) (λ y. then_uses (get_at_uses a) (put_uses (One y)))))))
 
 three : {n : ℕ} {act : Row} → Uses (suc (suc (suc n))) n act → Uses (3 + n) (0 + n) act

@@ -44,7 +44,11 @@ case arms = do
 -- among these blocks, the first of which has this number
 abbrev pub number_from : (first : ℕ) → List Path → Path → Option ℕ
 number_from n [] path = None
-number_from n (p ∷ more) path = elim (same_path p path) as (λ is. Option ℕ) [ true ↦ Some n | false ↦ number_from (n + 1) more path ]
+number_from n (p ∷ more) path = elim (same_path p path) as (λ is. Option ℕ) [
+  | true ↦ Some n
+  | false ↦
+      number_from (n + 1) more path
+]
 
 abbrev pub number_of_block : List Path → Path → Option ℕ
 number_of_block blocks path = number_from 0 blocks path

@@ -3,7 +3,7 @@
 -- the end of the file, 12 in the wrong state, 13 for no number, 1 for one that is too large, 14 for a width; limit 3 on
 -- widths and limit 4 on the bytes written to all files.
 use Rattle.std.specs.Prelude.{ℕ, ◌+◌, Bool, false, List, [], ◌∷◌, ◌++◌, length, map, Option, Some, None, nat_le, nat_lt, ℤ, pos}
-use Rattle.std.specs.Prelude.{int_lt, int_le, slice_get, slice_set}
+use Rattle.std.specs.Prelude.{slice_get, slice_set}
 use Rattle.mp_code.specs.declared.instructions.FileOperation.{FileOperation}
 use Rattle.mp_code.specs.declared.instructions.FileOperation.TheVariants as file
 use Rattle.mp_memory.specs.declared.cells.Cell.{Cell}

@@ -15,6 +15,7 @@ pub mod Steps
 pub mod Views
 pub mod Loads
 pub mod Strings
+pub mod Routines
 pub mod Shown
 pub mod Machines
 pub mod Runs

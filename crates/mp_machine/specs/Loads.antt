@@ -1,5 +1,5 @@
 -- The loaded blocks by their places. No promise of the machine to its users cites this but the view that it is seen through.
-use Rattle.std.specs.Prelude.{◌≡◌, ℕ, List, [], Option, Some, None, slice_get}
+use Rattle.std.specs.Prelude.{◌≡◌, ℕ, [], Option, Some, None, slice_get}
 use Rattle.std.specs.Arc.{arc_value}
 use Rattle.mp_code.specs.BlockCode.{BlockCode}
 use Rattle.mp_machine.specs.declared.codes.LoadedBlock.{LoadedBlock}

@@ -1,6 +1,7 @@
 -- The state of the table that a processor's vectors stand for, and what it is to agree with a row of the table. No promise
 -- of the machine to its users cites this but the view that it is seen through.
-use Rattle.std.specs.Prelude.{◌≡◌, ℕ, ◌+◌, ◌≤◌, ◌<◌, List, [], ◌∷◌, ◌++◌, length, map, reverse, take, drop, Some, None, Ok, Err, Result, is_some, nat_eq, Bool, sum_by, vec_len, vec_capacity}
+use Rattle.std.specs.Prelude.{◌≡◌, ℕ, ◌+◌, ◌≤◌, ◌<◌, List, [], ◌∷◌, ◌++◌, map, reverse, take, drop, Ok, Err}
+use Rattle.std.specs.Prelude.{Result, is_some, nat_eq, Bool, sum_by, vec_len, vec_capacity}
 use Rattle.std.specs.List.{list_any}
 use Rattle.mp_base.specs.declared.limits.TheConstants.{CELL_LIMIT}
 use Rattle.mp_memory.specs.declared.cells.Cell.{Cell}

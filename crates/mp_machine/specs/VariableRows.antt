@@ -1,6 +1,6 @@
 -- Rows that form references, and read and set cells under them (ISO 7185, 6.5, 6.8.2.2), with the faults: 4 for an index,
 -- 7 and 8 for pointers and disposed variables, 9 for an undefined value, 10 for a variant that is not active.
-use Rattle.std.specs.Prelude.{ℕ, ◌*◌, Bool, false, ◌&&◌, List, ◌∷◌, ℤ, ◌-ℤ◌, nat_lt}
+use Rattle.std.specs.Prelude.{ℕ, ◌*◌, Bool, false, ◌&&◌, List, ℤ, ◌-ℤ◌, nat_lt}
 use Rattle.std.specs.List.{list_any}
 use Rattle.mp_code.specs.declared.instructions.Group.{Group}
 use Rattle.mp_code.specs.declared.instructions.RequiredFile.{RequiredFile}
@@ -13,7 +13,8 @@ use Rattle.mp_machine.specs.Outcomes.{Row, ◌>>=◌, ◌>>◌, fault, stuck, ch
 use Rattle.mp_machine.specs.declared.addresses.Address.{Address}
 use Rattle.mp_machine.specs.Operands.{put, put_cell, put_reference, take_cell, take_number, take_pointer, take_address}
 use Rattle.mp_machine.specs.Operands.{take_block}
-use Rattle.mp_machine.specs.Memory.{cell_of, cells_of, defined, set_cell, set_cells, undefined_cells, beyond, offset_limit, reach, activation_at}
+use Rattle.mp_machine.specs.Memory.{cell_of, cells_of, defined, set_cell, set_cells, undefined_cells, beyond, offset_limit}
+use Rattle.mp_machine.specs.Memory.{reach, activation_at}
 use Rattle.mp_machine.specs.Memory.{object_at}
 
 -- ---- references

@@ -1,5 +1,5 @@
 // Rows that call, return and leave (ISO 7185, 6.6, 6.8.2.3, 6.8.2.4).
-ghost use Rattle.std.specs.Prelude.{◌≡◌, ◌∷◌, ◌++◌, [], ◌+◌, ◌-◌, ◌^◌, ◌<◌, ◌≤◌, IfOk, OnOk, length, reverse, true, vec_len, ℕ};
+ghost use Rattle.std.specs.Prelude.{◌≡◌, ◌∷◌, ◌++◌, [], ◌+◌, ◌-◌, ◌^◌, ◌<◌, ◌≤◌, IfOk, OnOk, length, option_copied, reverse, slice_get, true, vec_len, ℕ};
 ghost use Rattle.mp_machine.specs.Blocks.{Path as Steps};
 ghost use Rattle.mp_base.specs.declared.limits.TheConstants.{CELL_LIMIT};
 ghost use Rattle.mp_memory.specs.Roots.{roots_of};
@@ -7,6 +7,7 @@ ghost use Rattle.mp_machine.specs.CallRows as call;
 ghost use Rattle.mp_machine.specs.Loads.{paths_of};
 ghost use Rattle.mp_machine.specs.Operands as action;
 ghost use Rattle.mp_machine.specs.Outcomes.{Done};
+ghost use Rattle.mp_machine.specs.Routines.{routine_in};
 ghost use Rattle.mp_machine.specs.Shown.{Agrees, IsLoaded, Fits, NoMemory, Sound, Unmoved, IsMissing, WhereMissing, is_among, all_cells, returned_with, state_of};
 ghost use Rattle.mp_machine.specs.States.{cells_while, first_ordinal, object_cells};
 
@@ -68,6 +69,39 @@ fn cells_of_objects(store: &Store, objects: &Vec<Object>) -> u128
     cells
 }
 
+/// A procedural value: the number of its block, and that of its static parent.
+#[derive(Clone, Copy)]
+struct Routine {
+    block: u64,
+    act: u64,
+}
+
+fn routine_of(operand: &Operand) -> Option<Routine>
+    ensures { result ≡ routine_in operand.now }
+{
+    match operand {
+        Operand::One(Cell::Code { block, act }) => Some(Routine {
+            block: *block,
+            act: *act,
+        }),
+        _ => None,
+    }
+}
+
+// Whether the activation of the number is among these.
+fn lives(older: &[Activation], number: u64) -> bool
+    ensures { result ≡ is_among number (reverse older.now) }
+{
+    let mut k = older.len();
+    'outward: while k > 0 {
+        k -= 1;
+        if older[k].number == number {
+            return true;
+        }
+    }
+    false
+}
+
 // The block has no code.
 fn missing(path: &Path) -> Stop
     ensures { IsMissing path.now result }
@@ -110,7 +144,13 @@ impl Processor {
 
     /// An activation of the block, which begins with these cells. Limit 1 on live activations comes before limit 2 on live
     /// cells.
-    pub(crate) fn enter(&mut self, code: &Code, block: usize, parent: u64, cells: &Cells) -> Result<(), Stop>
+    pub(crate) fn enter(
+        &mut self,
+        code: &Code,
+        block: usize,
+        parent: u64,
+        cells: &Cells,
+    ) -> Result<(), Stop>
         requires sound { Sound self.old }
         requires fewer { self.old.store.next < 2 ^ 64 - 1 }
         ensures row { (paths : ℕ → Steps) → Agrees (call.enter code.now (paths block) parent cells.now (state_of paths self.old)) result (state_of paths self.new) }
@@ -124,14 +164,22 @@ impl Processor {
         if self.older.len() + 1 >= ACTIVATION_LIMIT {
             return Err(Stop::Limit(1));
         }
-        if u128::from(self.used) + self.object_cells() + u128::from(code.counted()) > u128::from(CELL_LIMIT) {
+        if u128::from(self.used) + self.object_cells() + u128::from(code.counted())
+            > u128::from(CELL_LIMIT)
+        {
             return Err(Stop::Limit(2));
         }
         self.begin_block(code, block, parent, cells)
     }
 
     // The activation begins: there is room for it.
-    fn begin_block(&mut self, code: &Code, block: usize, parent: u64, cells: &Cells) -> Result<(), Stop>
+    fn begin_block(
+        &mut self,
+        code: &Code,
+        block: usize,
+        parent: u64,
+        cells: &Cells,
+    ) -> Result<(), Stop>
         requires sound { Sound self.old }
         requires fewer { self.old.store.next < 2 ^ 64 - 1 }
         requires fit { length cells.now ≤ code.now.frame }
@@ -230,7 +278,13 @@ impl Processor {
 
     /// operands : none. An activation of the block, whose static parent is the activation of the depth around this one. A
     /// block without code changes nothing.
-    pub(crate) fn call(&mut self, codes: &LoadedBlocks, depth: u32, path: &Path, operands: u32) -> Result<(), Stop>
+    pub(crate) fn call(
+        &mut self,
+        codes: &LoadedBlocks,
+        depth: u32,
+        path: &Path,
+        operands: u32,
+    ) -> Result<(), Stop>
         requires sound { Sound self.old }
         requires fewer { self.old.store.next < 2 ^ 64 - 1 }
         ensures row { Agrees (call.call codes.now depth path.now operands (state_of (paths_of codes.now) self.old)) result (state_of (paths_of codes.now) self.new) }
@@ -286,7 +340,58 @@ impl Processor {
         ensures sound { Sound self.new }
         ensures loaded { (n : ℕ) → IsLoaded n self.old → IsLoaded n self.new }
     {
-        self.operands.truncate(self.newest.below);
+        let own = self.newest.below;
+        self.operands.truncate(own);
         self.newest.next = index as usize;
+    }
+
+    // The block of a number.
+    fn path_of(&self, block: u64) -> Option<&Path>
+        ensures { option_copied result ≡ slice_get self.now.blocks.items block }
+    {
+        self.blocks.get(block as usize)
+    }
+
+    fn has_activation(&self, number: u64) -> bool
+        ensures { result ≡ is_among number (self.now.newest ∷ reverse self.now.older.items) }
+    {
+        self.newest.number == number || lives(&self.older, number)
+    }
+
+    /// Proc operands : none. An activation of the block of the procedural value, with its static parent. A block without code
+    /// changes nothing.
+    pub(crate) fn call_by(&mut self, codes: &LoadedBlocks, operands: u32) -> Result<(), Stop>
+        requires sound { Sound self.old }
+        requires fewer { self.old.store.next < 2 ^ 64 - 1 }
+        ensures row { Agrees (call.call_by codes.now operands (state_of (paths_of codes.now) self.old)) result (state_of (paths_of codes.now) self.new) }
+        ensures sound { OnOk result (Sound self.new) }
+        ensures loaded { IsLoaded (length codes.now) self.old → IsLoaded (length codes.now) self.new }
+        ensures unchanged { WhereMissing result (self.new ≡ self.old) }
+    {
+        let count = operands as usize;
+        let have = self.operands.len();
+        if have.saturating_sub(self.newest.below) <= count {
+            return Err(Stop::Stuck);
+        }
+        let low = have - count;
+        let Some(routine) = routine_of(&self.operands[low - 1]) else {
+            return Err(Stop::Stuck);
+        };
+        let Some(path) = self.path_of(routine.block) else {
+            return Err(Stop::Stuck);
+        };
+        if !self.has_activation(routine.act) {
+            return Err(Stop::Stuck);
+        }
+        let Some((place, code)) = codes.find_code(path) else {
+            return Err(missing(path));
+        };
+        let cells = match cells_of_all(self.alloc, &self.operands[low..]) {
+            Ok(cells) => cells,
+            Err(Memory) => return Err(Stop::Memory),
+        };
+        self.operands.truncate(low - 1);
+        let parent = routine.act;
+        self.enter(code, place, parent, &cells)
     }
 }

@@ -34,7 +34,9 @@ impl Processor {
         ensures sound { OnOk result (Sound self.new) }
         ensures loaded { (n : ℕ) → IsLoaded n self.old → IsLoaded n self.new }
     {
-        if u128::from(self.used) + self.object_cells() + u128::from(cells) > u128::from(CELL_LIMIT) {
+        if u128::from(self.used) + self.object_cells() + u128::from(cells)
+            > u128::from(CELL_LIMIT)
+        {
             return Err(Stop::Limit(2));
         }
         self.add_object(cells)?;

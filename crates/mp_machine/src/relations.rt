@@ -130,7 +130,11 @@ impl Processor {
         let x = self.take()?;
         match (x, y) {
             (Operand::One(x), Operand::One(y)) => self.compare_cells(relation, x, y),
-            (Operand::Block(xs), Operand::Block(ys)) => self.put_defined(compare_strings(relation, xs.get(), ys.get())),
+            (Operand::Block(xs), Operand::Block(ys)) => self.put_defined(compare_strings(
+                relation,
+                xs.get(),
+                ys.get(),
+            )),
             _ => Err(Stop::Stuck),
         }
     }

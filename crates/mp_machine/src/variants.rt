@@ -36,7 +36,9 @@ fn is_same_variant(groups: &[Group], old: &Cell, new: &Cell) -> bool
     ensures { result ≡ variable.same_variant groups.now old.now new.now }
 {
     'groups: for group in groups {
-        if is_tag_of(group.constants.as_slice(), old) && is_tag_of(group.constants.as_slice(), new) {
+        if is_tag_of(group.constants.as_slice(), old)
+            && is_tag_of(group.constants.as_slice(), new)
+        {
             return true;
         }
     }
@@ -76,7 +78,13 @@ impl Processor {
 
     /// Ref : Ref. Where the tag at the offset is none of the constants, it becomes `constant`, and so many cells behind it undefined.
     #[inline(always)]
-    pub(crate) fn select(&mut self, offset: u32, constant: i64, constants: &[i64], cells: u32) -> Result<(), Stop>
+    pub(crate) fn select(
+        &mut self,
+        offset: u32,
+        constant: i64,
+        constants: &[i64],
+        cells: u32,
+    ) -> Result<(), Stop>
         ensures row { (paths : ℕ → Steps) → Agrees (variable.select offset constant constants.now cells (state_of paths self.old)) result (state_of paths self.new) }
         ensures kept { Unmoved self.old self.new }
         ensures memory { NoMemory result }

@@ -1,4 +1,4 @@
-use Rattle.std.proofs.Common.{◌≡◌, ℕ, ◌≤◌, length, take, reverse}
+use Rattle.std.proofs.Common.{◌≡◌, ◌≤◌, length, take, reverse}
 use Rattle.mp_machine.specs.Activations.{seek}
 use Rattle.mp_machine.specs.Loads.{paths_of}
 use Rattle.mp_machine.specs.Shown.{activations_seen}

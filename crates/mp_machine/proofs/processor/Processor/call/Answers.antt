@@ -5,4 +5,4 @@ use Rattle.mp_machine.proofs.processor.Processor.call.Goals as goal
 pub returns-clause-loaded : goal.returns-clause-loaded
 returns-clause-loaded c l =
     c.enter.ensures.loaded (length c.args.codes.now) (search rules)
-      (loaded_kept c.args.self.now c.take_all.new.self (length c.args.codes.now) c.take_all.ensures.kept l)
+    (loaded_kept c.args.self.now c.take_all.new.self (length c.args.codes.now) c.take_all.ensures.kept l)
