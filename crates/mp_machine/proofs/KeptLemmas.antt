@@ -1,5 +1,7 @@
 -- What stays the same over several steps.
-use Rattle.std.proofs.Common.{◌≡◌, ◌∙◌, ◌<◌, ◌||◌, ℕ, Bool, true, false, List, ◌∷◌, ap, refl, reverse, subst, sym}
+use Rattle.std.proofs.Common.{◌≡◌, ◌∙◌, ◌<◌, ◌||◌, ℕ, Bool, true, false, List, ◌∷◌, ap, refl, reverse, subst, sym, ◌+◌, ◌≤◌}
+use Rattle.std.specs.List.{fold}
+use Rattle.mp_base.specs.declared.limits.TheConstants.{CELL_LIMIT}
 use Rattle.std.specs.Prelude.{nat_eq}
 use Rattle.std.proofs.lemmas.Bool.{eqb-true, ne_eqb}
 use Rattle.mp_machine.specs.declared.activations.Activation.{Activation}
@@ -7,7 +9,7 @@ use Rattle.mp_machine.specs.States.{Frame, State}
 use Rattle.mp_machine.specs.Outcomes.{Outcome, Done, Fault, Limit, Missing, Ended, Lacking, Stuck}
 use Rattle.mp_machine.specs.CallRows.{left_until, without_newest}
 use Rattle.mp_machine.specs.declared.processor.Processor.{Processor}
-use Rattle.mp_machine.specs.Shown.{AreLoaded, IsLoaded, Unmoved, is_among}
+use Rattle.mp_machine.specs.Shown.{AreLoaded, AreStacked, IsLoaded, Sound, Unmoved, is_among}
 
 pub unmoved_two : (m n o : Processor) → Unmoved m n → Unmoved n o → Unmoved m o
 unmoved_two m n o a b = record {
@@ -71,4 +73,13 @@ loaded_alike m n count same alike l = record {
     subst (λ o. AreLoaded count (reverse o)) (sym alike)
         l.blocks.1,
   );
+}
+
+pub sound_kept : (m n : Processor) → Unmoved m n → Sound m → Sound n
+sound_kept m n kept s = record {
+  own = kept.own s.own;
+  stacked = subst (λ b. AreStacked b (reverse n.older.items)) (sym kept.below) (subst (λ o. AreStacked m.newest.below (reverse o)) (sym kept.older) s.stacked);
+  counts = kept.used ∙ s.counts ∙ ap (λ c. fold (λ k a. k + a.cells) (0 + c) (reverse m.older.items)) (sym kept.cells)
+      ∙ ap (λ o. fold (λ k a. k + a.cells) (0 + n.newest.cells) (reverse o)) (sym kept.older);
+  bound = subst (λ u. u ≤ CELL_LIMIT) (sym kept.used) s.bound;
 }

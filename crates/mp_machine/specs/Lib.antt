@@ -16,6 +16,7 @@ pub mod Views
 pub mod Loads
 pub mod Strings
 pub mod Routines
+pub mod Plays
 pub mod Shown
 pub mod Machines
 pub mod Runs

@@ -20,6 +20,7 @@ mod numbers;
 mod object_rows;
 mod objects;
 mod operands;
+mod play;
 mod processor;
 mod relations;
 mod sets;
