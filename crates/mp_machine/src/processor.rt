@@ -1,6 +1,6 @@
 // What runs: live activations with their operands and cells, objects and files. Each function here is one line of the
 // table's rows; the rows of the other files are made of these.
-ghost use Rattle.std.specs.Prelude.{◌≡◌, ◌+◌, ◌^◌, ◌<◌, ℕ, suc, OnOk};
+ghost use Rattle.std.specs.Prelude.{◌≡◌, ◌+◌, ◌^◌, ◌<◌, ◌≤◌, ℕ, suc, OnOk, vec_len};
 ghost use Rattle.mp_machine.specs.Blocks.{Path as Steps};
 ghost use Rattle.mp_machine.specs.Operands as action;
 ghost use Rattle.mp_machine.specs.Outcomes.{Done};
@@ -11,7 +11,7 @@ use crate::activations::Activation;
 use crate::addresses::Address;
 use crate::objects::Object;
 use crate::operands::{Cells, Operand};
-use mp_base::Path;
+use mp_base::{Memory, Path};
 use mp_files::Files;
 use mp_memory::{Cell, MemberSet, Store};
 use std::alloc::Global;
@@ -205,6 +205,24 @@ impl Processor {
             root: a.root,
             offset: a.offset,
         })
+    }
+
+    /// Makes room for one operand more, before an instruction that puts more than it takes. Nothing that a contract sees
+    /// changes, also where memory is wanting.
+    #[inline(always)]
+    pub fn make_room(&mut self) -> Result<(), Memory>
+        requires { self.old.newest.below ≤ vec_len self.old.operands }
+        ensures state { (paths : ℕ → Steps) → state_of paths self.new ≡ state_of paths self.old }
+        ensures kept { Unmoved self.old self.new }
+        ensures room { OnOk result (Fits 1 self.new) }
+    {
+        if self.operands.len() < self.operands.capacity() {
+            return Ok(());
+        }
+        match self.operands.reserve(1) {
+            Ok(()) => Ok(()),
+            Err(_) => Err(Memory),
+        }
     }
 
     /// The next instruction is the one that is executed last.
