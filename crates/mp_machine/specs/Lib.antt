@@ -14,6 +14,7 @@ pub mod Table
 pub mod Steps
 pub mod Views
 pub mod Loads
+pub mod FileStops
 pub mod Strings
 pub mod Routines
 pub mod Plays

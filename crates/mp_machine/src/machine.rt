@@ -13,10 +13,10 @@ ghost use Rattle.mp_machine.specs.Views.{object_root};
 use crate::activations::Activation;
 use crate::calls::first_place;
 use crate::codes::LoadedBlocks;
+use crate::given_files::GivenFiles;
 use crate::processor::Processor;
 use mp_base::{CELL_LIMIT, Memory, Path};
 use mp_code::Code;
-use mp_files::Files;
 use mp_memory::{Cell, Store};
 use std::alloc::Global;
 use std::marker::Model;
@@ -89,8 +89,8 @@ fn first_processor(alloc: Global, main: &Code, input: &[u8]) -> Result<Processor
     ensures loaded { IfOk result (λ m. IsLoaded 1 m) }
     ensures sound { IfOk result (λ m. main.now.counted ≤ CELL_LIMIT → Sound m) }
 {
-    let files = Files::new(alloc, input)?;
-    let buffer = buffer_cell(files.shown(0));
+    let files = GivenFiles::new(alloc, input)?;
+    let buffer = buffer_cell(files.get().shown(0));
     let store = first_store(alloc, buffer, main.frame())?;
     Ok(Processor {
         alloc,

@@ -9,10 +9,10 @@ ghost use Rattle.mp_machine.specs.Shown.{Agrees, Fits, NoMemory, Unmoved, state_
 
 use crate::activations::Activation;
 use crate::addresses::Address;
+use crate::given_files::GivenFiles;
 use crate::objects::Object;
 use crate::operands::{Cells, Operand};
 use mp_base::{Memory, Path};
-use mp_files::Files;
 use mp_memory::{Cell, MemberSet, Store};
 use std::alloc::Global;
 
@@ -39,7 +39,7 @@ pub(crate) struct Processor {
     /// The other live activations, the oldest first.
     pub older: Vec<Activation>,
     pub objects: Vec<Object>,
-    pub files: Files,
+    pub files: GivenFiles,
     /// The blocks that a procedural value was made of, by their numbers.
     pub blocks: Vec<Path>,
     /// The place of the instruction that was executed last.
