@@ -1,8 +1,10 @@
-ghost use Rattle.std.specs.Prelude.{◌≡◌, IfOk, length, nat_lt};
-ghost use Rattle.mp_files.specs.RunFiles.{starting};
+ghost use Rattle.std.specs.Prelude.{◌≡◌, IfErr, IfOk, OnErr, OnOk, Some, length, nat_lt};
+ghost use Rattle.mp_files.specs.RunFiles.{IsGiven, fault_of, file_at, starting, with_file};
+ghost use Rattle.mp_files.specs.TextFiles as text;
+ghost use Rattle.mp_files.specs.TextFiles.{Gives};
 
 use mp_base::Memory;
-use mp_files::Files;
+use mp_files::{FileEnd, Files};
 use std::alloc::Global;
 use std::marker::Model;
 
@@ -47,5 +49,27 @@ impl GivenFiles {
         ensures { result.now ≡ self.now }
     {
         &self.files
+    }
+
+    /// Goes past the item at the position.
+    pub fn get_next(&mut self, number: u64) -> Result<(), FileEnd>
+        requires { IsGiven self.old number }
+        ensures moved { OnOk result (text.get (file_at self.old number) ≡ Gives tt (file_at self.new number)) }
+        ensures fault { IfErr result (λ e. fault_of (text.get (file_at self.old number)) ≡ Some e) }
+        ensures others { self.new ≡ with_file number (file_at self.new number) self.old }
+        ensures unchanged { OnErr result (self.new ≡ self.old) }
+    {
+        self.files.get(number)
+    }
+
+    /// Goes past the next line end, or to the end of the file.
+    pub fn read_line(&mut self, number: u64) -> Result<(), FileEnd>
+        requires { IsGiven self.old number }
+        ensures moved { OnOk result (text.read_line (file_at self.old number) ≡ Gives tt (file_at self.new number)) }
+        ensures fault { IfErr result (λ e. fault_of (text.read_line (file_at self.old number)) ≡ Some e) }
+        ensures others { self.new ≡ with_file number (file_at self.new number) self.old }
+        ensures unchanged { OnErr result (self.new ≡ self.old) }
+    {
+        self.files.read_line(number)
     }
 }

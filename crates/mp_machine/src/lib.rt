@@ -12,6 +12,7 @@ mod calls;
 mod cells;
 mod codes;
 pub mod examples;
+mod file_moves;
 mod file_queries;
 mod frames;
 mod given_files;
