@@ -50,7 +50,7 @@ impl Model for Machine {
     ghost invariant = { λ m. IsInside m.codes m.processor m.over };
 }
 
-fn buffer_cell(shown: Option<u8>) -> Cell
+pub(crate) fn buffer_cell(shown: Option<u8>) -> Cell
     ensures { result ≡ buffer_cell shown }
 {
     match shown {
