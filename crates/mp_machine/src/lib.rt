@@ -1,8 +1,10 @@
 //! The stack machine: what each instruction does to a state of activations, cells, objects and files, one row of the
 //! table an instruction, with the faults and limits that a run meets and their order.
 //!
-//! The definitions are total functions; where an instruction does not find what the table wants they are stuck, and no
-//! promise of the machine speaks of that. The crate stands on `mp_code`, `mp_memory` and `mp_files`.
+//! The definitions in `specs/` are total functions; where an instruction does not find what the table wants they are
+//! stuck, and no promise speaks of that. Laws and examples of them are functions without a body. [`Machine`] begins a run,
+//! takes codes and shows the cells and objects. Behind it each row is a function whose contract is one equation with its
+//! definition: the same answer, and exactly the state after it. The crate stands on `mp_code`, `mp_memory` and `mp_files`.
 #![tactic(auto)]
 
 mod activations;
