@@ -7,4 +7,6 @@
 #[cfg(test)]
 mod code;
 #[cfg(test)]
+mod machine;
+#[cfg(test)]
 mod memory;

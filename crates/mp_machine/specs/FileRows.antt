@@ -1,0 +1,295 @@
+-- Rows on text files (ISO 7185, 6.6.5.2, 6.6.6.5, 6.9). A file variable is the cell of its file, which is undefined while
+-- no file was made, and the cell of its buffer variable behind it. The faults: 9 for an undefined buffer or character, 11 at
+-- the end of the file, 12 in the wrong state, 13 for no number, 1 for one that is too large, 14 for a width; limit 3 on
+-- widths and limit 4 on the bytes written to all files.
+use Rattle.std.specs.Prelude.{ℕ, ◌+◌, Bool, false, List, [], ◌∷◌, ◌++◌, length, map, Option, Some, None, nat_le, nat_lt, ℤ, pos}
+use Rattle.std.specs.Prelude.{slice_get, slice_set}
+use Rattle.mp_code.specs.declared.instructions.FileOperation.{FileOperation}
+use Rattle.mp_code.specs.declared.instructions.FileOperation.TheVariants as file
+use Rattle.mp_memory.specs.declared.cells.Cell.{Cell}
+use Rattle.mp_memory.specs.declared.cells.Cell.TheVariants as cell
+use Rattle.mp_base.specs.declared.limits.TheConstants.{OUTPUT_LIMIT}
+use Rattle.mp_files.specs.declared.causes.FileEnd.{FileEnd}
+use Rattle.mp_files.specs.declared.causes.FileEnd.TheVariants as end
+use Rattle.mp_machine.specs.Numbers.{natural, is_true}
+use Rattle.mp_files.specs.declared.items.Item.{Item}
+use Rattle.mp_files.specs.declared.items.Item.TheVariants.{Character, LineEnd}
+use Rattle.mp_files.specs.TextFiles.{TextFile, FileCall, Gives, Fails, closed_file, shown, at_item, in_writing, write_items}
+use Rattle.mp_files.specs.TextFiles.{page_items}
+use Rattle.mp_files.specs.TextFiles as text
+use Rattle.mp_files.specs.WrittenFields.{integer_field, truth_field, character_field, width_refusal, width_of}
+use Rattle.mp_machine.specs.Outcomes.{Action, Row, ◌>>=◌, ◌>>◌, gives, skip, now, update, fault, limit, stuck, needs, choose}
+use Rattle.mp_machine.specs.Outcomes.{unless}
+use Rattle.mp_machine.specs.declared.addresses.Address.{Address}
+use Rattle.mp_machine.specs.Operands.{put_cell, put_number, put_truth, take_number, take_address, take_block}
+use Rattle.mp_machine.specs.Memory.{cell_of, set_cell, defined, reach}
+use Rattle.mp_machine.specs.Operands.{as_number}
+use Rattle.mp_machine.specs.ValueRows.{characters_of}
+
+-- ---- the file of a file variable
+
+-- its number, where one was made
+abbrev pub as_file : Cell → Action (Option ℕ)
+as_file cell.Undef = gives None
+as_file (cell.FileNo k) = gives (Some k)
+as_file _ = stuck
+
+abbrev pub file_number : Address → Action (Option ℕ)
+file_number a = do
+  x ← cell_of a
+  as_file x
+
+abbrev pub file_of : Option ℕ → Action TextFile
+file_of None = gives closed_file
+file_of (Some k) = do
+  s ← now
+  needs (slice_get s.files k)
+
+abbrev pub file_in : Address → Action TextFile
+file_in a = do
+  k ← file_number a
+  file_of k
+
+-- the file that was made takes the place of the old one
+abbrev pub set_file : Option ℕ → TextFile → Row
+set_file None f = stuck
+set_file (Some k) f = update (λ s. record s { files = slice_set s.files k f })
+
+-- ---- calls on it
+
+-- what the call gives, the file left as it is
+abbrev pub answer : {A : Type 0} → FileCall A → Action A
+answer (Gives x f) = gives x
+answer (Fails number) = fault number
+
+-- of the file of a number, or of one that was not made
+abbrev pub asked : {A : Type 0} → Option ℕ → (TextFile → FileCall A) → Action A
+asked k question = do
+  f ← file_of k
+  answer (question f)
+
+abbrev pub ask : {A : Type 0} → Address → (TextFile → FileCall A) → Action A
+ask a question = do
+  k ← file_number a
+  asked k question
+
+-- what the call gives, with the file after it
+abbrev pub result : {A : Type 0} → Option ℕ → FileCall A → Action A
+result k (Gives x f) = do
+  set_file k f
+  gives x
+result k (Fails number) = fault number
+
+abbrev pub on_number : {A : Type 0} → Option ℕ → (TextFile → FileCall A) → Action A
+on_number k operation = do
+  f ← file_of k
+  result k (operation f)
+
+abbrev pub on_file : {A : Type 0} → Address → (TextFile → FileCall A) → Action A
+on_file a operation = do
+  k ← file_number a
+  on_number k operation
+
+-- ---- the buffer variable
+
+abbrev pub buffer_of : Address → Action Address
+buffer_of a = reach a 1
+
+abbrev pub buffer_cell : Option ℕ → Cell
+buffer_cell None = cell.Undef
+buffer_cell (Some b) = cell.Int (pos b)
+
+-- it is set anew
+abbrev pub renew_buffer : Address → Row
+renew_buffer a = do
+  x ← ask a (λ f. Gives (shown f) f)
+  b ← buffer_of a
+  set_cell b (buffer_cell x)
+
+-- ---- reset and rewrite; they have no effect on `input` and `output`
+
+abbrev pub is_required : Option ℕ → Bool
+is_required None = false
+is_required (Some k) = nat_lt k 2
+
+-- the file takes the place of the old one, or is made, and its number stored
+abbrev pub make_file : Address → Option ℕ → TextFile → Row
+make_file a (Some k) f = set_file (Some k) f
+make_file a None f = do
+  s ← now
+  set_cell a (cell.FileNo (length s.files))
+  update (λ s. record s { files = s.files ++ f ∷ [] })
+
+abbrev pub begin_file : (TextFile → TextFile) → Row
+begin_file new = do
+  a ← take_address
+  k ← file_number a
+  choose (is_required k) skip (do
+    f ← file_of k
+    make_file a k (new f)
+    renew_buffer a)
+
+-- ---- reading
+
+-- Ref : 0 or 1
+abbrev pub eof : Row
+eof = do
+  a ← take_address
+  is ← ask a text.eof
+  put_truth is
+
+-- Ref : 0 or 1
+abbrev pub eoln : Row
+eoln = do
+  a ← take_address
+  is ← ask a text.eoln
+  put_truth is
+
+abbrev pub get_at : Address → Row
+get_at a = do
+  on_file a text.get
+  renew_buffer a
+
+-- Ref : none
+abbrev pub get : Row
+get = do
+  a ← take_address
+  get_at a
+
+-- Ref : none
+abbrev pub read_line : Row
+read_line = do
+  a ← take_address
+  on_file a text.read_line
+  renew_buffer a
+
+-- Ref : number
+abbrev pub read_int : Row
+read_int = do
+  a ← take_address
+  n ← on_file a text.read_number
+  renew_buffer a
+  put_number n
+
+-- a file that is not in reading is fault 12, the end of the file fault 11
+abbrev pub must_read : Address → Row
+must_read a = ask a (λ f. at_item f (Gives tt f))
+
+-- Ref : number, that of the buffer variable, and then `get`
+abbrev pub read_char : Row
+read_char = do
+  a ← take_address
+  must_read a
+  b ← buffer_of a
+  x ← cell_of b
+  y ← defined x
+  get_at a
+  put_cell y
+
+-- ---- writing: limit 4 on the bytes written to all files
+
+abbrev pub charge : (bytes : ℕ) → Row
+charge n = do
+  s ← now
+  unless (nat_le (s.written + n) OUTPUT_LIMIT) (limit 4)
+  update (λ s. record s { written = s.written + n })
+
+-- a file that is not in writing is fault 12, before limit 4
+abbrev pub must_write : Address → Row
+must_write a = ask a (λ f. in_writing f (Gives tt f))
+
+abbrev pub write_to : Address → List Item → Row
+write_to a items = do
+  must_write a
+  charge (length items)
+  on_file a (write_items items)
+
+abbrev pub write_bytes : Address → List ℕ → Row
+write_bytes a bytes = write_to a (map Character bytes)
+
+-- Ref : none
+abbrev pub write_line : Row
+write_line = do
+  a ← take_address
+  write_to a (LineEnd ∷ [])
+
+-- Ref : none
+abbrev pub page : Row
+page = do
+  a ← take_address
+  f ← file_in a
+  write_to a (page_items f)
+
+-- Ref : none; the buffer variable is written, and set anew
+abbrev pub put_file : Row
+put_file = do
+  a ← take_address
+  must_write a
+  b ← buffer_of a
+  x ← cell_of b
+  y ← defined x
+  n ← as_number y
+  write_bytes a (natural n ∷ [])
+  renew_buffer a
+
+-- ---- write (6.9.3): fault 14 for a width below 1, limit 3 for one above 4,096
+
+abbrev pub refuse : Option FileEnd → Row
+refuse None = skip
+refuse (Some (end.Fault number)) = fault number
+refuse (Some (end.Limit number)) = limit number
+refuse (Some end.Memory) = stuck
+
+abbrev pub write_field : Address → (width : ℤ) → (ℕ → List ℕ) → Row
+write_field a width bytes = do
+  refuse (width_refusal width)
+  write_bytes a (bytes (width_of width))
+
+-- Ref i width : none
+abbrev pub write_number : (ℤ → ℕ → List ℕ) → Row
+write_number field = do
+  width ← take_number
+  n ← take_number
+  a ← take_address
+  write_field a width (field n)
+
+abbrev pub defined_string : Option (List ℕ) → Action (List ℕ)
+defined_string None = fault 9
+defined_string (Some bytes) = gives bytes
+
+-- Ref block width : none
+abbrev pub write_chars : Row
+write_chars = do
+  width ← take_number
+  xs ← take_block
+  a ← take_address
+  bytes ← defined_string (characters_of xs)
+  write_field a width (λ w. character_field w bytes)
+
+abbrev pub integer_bytes : ℤ → (width : ℕ) → List ℕ
+integer_bytes n width = integer_field width n
+
+abbrev pub character_bytes : ℤ → (width : ℕ) → List ℕ
+character_bytes n width = character_field width (natural n ∷ [])
+
+abbrev pub truth_bytes : ℤ → (width : ℕ) → List ℕ
+truth_bytes n width = truth_field width (is_true n)
+
+-- ---- the operations
+
+abbrev pub file_row : FileOperation → Row
+file_row file.Eof = eof
+file_row file.Eoln = eoln
+file_row file.Get = get
+file_row file.Put = put_file
+file_row file.Reset = begin_file text.reset
+file_row file.Rewrite = begin_file text.rewrite
+file_row file.ReadLine = read_line
+file_row file.WriteLine = write_line
+file_row file.Page = page
+file_row file.ReadInt = read_int
+file_row file.ReadChar = read_char
+file_row file.WriteInt = write_number integer_bytes
+file_row file.WriteChar = write_number character_bytes
+file_row file.WriteBool = write_number truth_bytes
+file_row file.WriteChars = write_chars
