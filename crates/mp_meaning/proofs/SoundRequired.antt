@@ -1,6 +1,7 @@
 -- Calls of required procedures in checked programs.
 use Rattle.std.proofs.Common.{◌≡◌, ℕ, zero, suc, ◌+◌, ◌≤◌, List, [], ◌∷◌, ◌++◌, Option, Some, None, Bool, true, false, refl, sym, ap, ◌∙◌, subst, arith}
-use Rattle.std.specs.Prelude.{◌-◌, ◌&&◌, nat_eq, length, slice_get, nat_le, ℤ, pos, ◌+ℤ◌, ◌-ℤ◌, int_le, int_lt}
+use Rattle.std.specs.Prelude.{if◌then◌else◌, ◌-◌, ◌&&◌, nat_eq, length, slice_get, nat_le, ℤ, pos, ◌+ℤ◌, ◌-ℤ◌, int_le, int_lt}
+use Rattle.mp_base.specs.declared.limits.TheConstants.{CELL_LIMIT, WIDTH_LIMIT}
 use Rattle.mp_tables.specs.declared.types.TypeId.{TypeId}
 use Rattle.mp_tables.specs.declared.types.TypeId.TheVariants as type
 use Rattle.mp_tables.specs.declared.types.Shape.TheVariants as shape
@@ -19,19 +20,21 @@ use Rattle.mp_tables.specs.Seen.{shape_of}
 use Rattle.mp_tables.specs.Checked.{Selected, last_field, tags_part, sort_in, write_sort_in, IsTagField, CheckedReading, CheckedWidth, CheckedWriting, CheckedPacking, CheckedRequired, Each}
 use Rattle.mp_meaning.specs.Names.{Path}
 use Rattle.mp_meaning.specs.Numbers.{natural}
-use Rattle.mp_meaning.specs.WrittenFields.{integer_field, padded_or_cut, truth_text}
+use Rattle.mp_files.specs.declared.causes.FileEnd.TheVariants as end
+use Rattle.mp_files.specs.declared.causes.TheConstants.{WIDTH_BELOW_ONE, WIDTH_TOO_LARGE}
+use Rattle.mp_files.specs.WrittenFields.{integer_field, character_field, truth_field, width_refusal, width_of}
 use Rattle.mp_meaning.specs.Forms.{cells_of}
+use Rattle.mp_meaning.specs.Operators.{is_true}
 use Rattle.mp_meaning.specs.Values.{Reference, Value, Pointer, Structure, Values, NoValues, Then, undefined, is_structure, string_in, values_in, values_from, first_values, laid_over}
 use Rattle.mp_meaning.specs.Configurations.{Configuration, Activation, Root, Object, live_cells}
 use Rattle.mp_tables.specs.Sizes.{saturated}
-use Rattle.mp_meaning.specs.Variables.{most_cells}
 use Rattle.mp_meaning.specs.Outcomes.{wrong, ◌>>◌, update, limit, unless}
 use Rattle.mp_meaning.specs.Variables.{set}
-use Rattle.mp_meaning.specs.Calls.{Self, cell_limit}
-use Rattle.mp_meaning.specs.RequiredProcedures.{on_file_procedure, default_width, defined_string, field, take_value, with_object, make, disposed, dispose, pack, unpack, read_all, eval_width, write_one, write_all, required, width_limit}
+use Rattle.mp_meaning.specs.Calls.{Self}
+use Rattle.mp_meaning.specs.RequiredProcedures.{must_be_width, on_file_procedure, default_width, defined_string, field, take_value, with_object, make, disposed, dispose, pack, unpack, read_all, eval_width, write_one, write_all, required}
 use Rattle.mp_meaning.proofs.SoundKinds.{kind_cells, Given, Kind, Of, class_of_shape, domain_of, World, Later, then_later, Spot, spot_later, PointsTo, IfPointers, HasKind, HasParts, fits_later}
 use Rattle.mp_meaning.proofs.SoundFrames.{type_has}
-use Rattle.mp_meaning.proofs.SoundOutcomes.{unless_true, nat_eq_refl, Sane, activations_later, Reach, Within, Sound, Safe, Any, sound_earlier, bind_safe, then_safe, gives_safe, skip_safe, fault_safe, choose_safe, unless_fault, unless_limit, update_safe}
+use Rattle.mp_meaning.proofs.SoundOutcomes.{limit_safe, unless_true, nat_eq_refl, Sane, activations_later, Reach, Within, Sound, Safe, Any, sound_earlier, bind_safe, then_safe, gives_safe, skip_safe, fault_safe, choose_safe, unless_fault, update_safe}
 use Rattle.mp_meaning.proofs.SoundVariables.{SortHas, Sorted, sorted_later, check_has, number_fits, root_cases, as_number_safe, as_pointer_safe, held_safe, must_fit_safe, set_safe, assign_safe, IsTag, field_later, object_safe}
 use Rattle.mp_meaning.proofs.SoundOperators.{IsText, write_bytes_safe, write_line_safe, page_safe, put_safe, get_safe, read_line_safe, read_character_safe, read_integer_safe, reset_safe, rewrite_safe}
 use Rattle.mp_meaning.proofs.SoundNumbers.{packed_within}
@@ -82,19 +85,19 @@ sane_disposed g w c o s = record {
   small = s.small;
 }
 
-few_of : (n cells : ℕ) → nat_le (n + cells) cell_limit ≡ true → cells ≤ most_cells
+few_of : (n cells : ℕ) → nat_le (n + cells) CELL_LIMIT ≡ true → cells ≤ CELL_LIMIT
 few_of n cells h = grind arith
 
-exact_of : (n m : ℕ) → n ≡ saturated m → n ≤ most_cells → n ≡ m
+exact_of : (n m : ℕ) → n ≡ saturated m → n ≤ CELL_LIMIT → n ≡ m
 exact_of n m is room = omega arith
 
 module _ {g : Given} {acts : List Activation} {reach : Reach} where
-  make_sound : {w : World} (at : ℕ) (d t : TypeId) (n : ℕ) (r : Reference) (c : Configuration) → Sane g w c → c.activations ≡ acts → Spot g (Of (Some t)) w r → shape_of g.tables t ≡ Some (shape.Ptr (Some d)) → n ≡ saturated (cells_of (g.program.form d)) → (b : Bool) → nat_le (live_cells c + n) cell_limit ≡ b → Sound g w acts reach Any ((unless b (limit at 2) >> (unless (nat_eq (cells_of (g.program.form d)) n) wrong >> (update (with_object (g.program.form d)) >> set at r (Pointer (suc (length c.objects)))))) c)
+  make_sound : {w : World} (at : ℕ) (d t : TypeId) (n : ℕ) (r : Reference) (c : Configuration) → Sane g w c → c.activations ≡ acts → Spot g (Of (Some t)) w r → shape_of g.tables t ≡ Some (shape.Ptr (Some d)) → n ≡ saturated (cells_of (g.program.form d)) → (b : Bool) → nat_le (live_cells c + n) CELL_LIMIT ≡ b → Sound g w acts reach Any ((unless b (limit at 2) >> (unless (nat_eq (cells_of (g.program.form d)) n) wrong >> (update (with_object (g.program.form d)) >> set at r (Pointer (suc (length c.objects)))))) c)
   make_sound at d t n r c sane e s is counts false room = record { by = tt }
   make_sound {w} at d t n r c sane e s is counts true room =
-      let less : n ≤ most_cells = few_of (live_cells c) n room in
+      let less : n ≤ CELL_LIMIT = few_of (live_cells c) n room in
       let exact : n ≡ cells_of (g.program.form d) = exact_of n (cells_of (g.program.form d)) counts less in
-      let few : kind_cells g (Of (Some d)) ≤ most_cells = subst (λ m. m ≤ most_cells) exact less in
+      let few : kind_cells g (Of (Some d)) ≤ CELL_LIMIT = subst (λ m. m ≤ CELL_LIMIT) exact less in
       let o : Object = record { root = c.next; cells = cells_of (g.program.form d) } in
       let objects : List Object = c.objects ++ o ∷ [] in
       let v : World = grown w c.next (Of (Some d)) objects in
@@ -110,7 +113,7 @@ module _ {g : Given} {acts : List Activation} {reach : Reach} where
 
   make_safe : {w : World} (at : ℕ) (d t : TypeId) (n : ℕ) (r : Reference) → Spot g (Of (Some t)) w r → shape_of g.tables t ≡ Some (shape.Ptr (Some d)) → n ≡ saturated (cells_of (g.program.form d)) → Safe g w acts reach Any (make at (g.program.form d) n r)
   make_safe at d t n r s is counts = bind_safe (held_safe at r s) (λ u l v any. record {
-    by = λ c sane e. make_sound at d t n r c sane e (spot_later l s) is counts (nat_le (live_cells c + n) cell_limit) refl;
+    by = λ c sane e. make_sound at d t n r c sane e (spot_later l s) is counts (nat_le (live_cells c + n) CELL_LIMIT) refl;
   })
 
   dispose_safe : {w : World} (at o : ℕ) → PointsTo w None o → Safe g w acts reach Any (dispose at o)
@@ -129,11 +132,19 @@ module _ {g : Given} {acts : List Activation} {reach : Reach} where
   string_safe at None = fault_safe at 9
   string_safe at (Some bytes) = gives_safe bytes tt
 
+  must_be_width_safe : {w : World} (at : ℕ) (width : ℤ) → Safe g w acts reach Any (must_be_width at (width_refusal width))
+  must_be_width_safe {w = w} at width = by_tests (int_lt width (pos 1)) (int_lt (pos WIDTH_LIMIT) width)
+    where
+      by_tests : (small large : Bool) → Safe g w acts reach Any (must_be_width at (if small then Some (end.Fault WIDTH_BELOW_ONE) else if large then Some (end.Limit WIDTH_TOO_LARGE) else None))
+      by_tests true large = fault_safe at WIDTH_BELOW_ONE
+      by_tests false true = limit_safe at WIDTH_TOO_LARGE
+      by_tests false false = skip_safe tt
+
   field_safe : {w : World} (at : ℕ) (of : WriteSort) (v : Value) → SortHas w (write_sort_in of) v → Safe g w acts reach Any (field at of v)
   field_safe at writes.Integer v s = bind_safe {P = Any} (as_number_safe v s.0 s.1 tt) (λ u l n any. gives_safe (λ width. integer_field width n) tt)
-  field_safe at writes.Char v s = bind_safe {P = Any} (as_number_safe v s.0 s.1 tt) (λ u l n any. gives_safe (λ width. padded_or_cut width (natural n ∷ [])) tt)
-  field_safe at writes.Boolean v s = bind_safe {P = Any} (as_number_safe v s.0 s.1 tt) (λ u l n any. gives_safe (λ width. padded_or_cut width (truth_text n)) tt)
-  field_safe at (writes.Text count) v s = then_safe (unless_true (is_structure v) wrong s.0) (λ u0 l0 y any. bind_safe (string_safe at (string_in v)) (λ u l bytes any. gives_safe (λ width. padded_or_cut width bytes) tt))
+  field_safe at writes.Char v s = bind_safe {P = Any} (as_number_safe v s.0 s.1 tt) (λ u l n any. gives_safe (λ width. character_field width (natural n ∷ [])) tt)
+  field_safe at writes.Boolean v s = bind_safe {P = Any} (as_number_safe v s.0 s.1 tt) (λ u l n any. gives_safe (λ width. truth_field width (is_true n)) tt)
+  field_safe at (writes.Text count) v s = then_safe (unless_true (is_structure v) wrong s.0) (λ u0 l0 y any. bind_safe (string_safe at (string_in v)) (λ u l bytes any. gives_safe (λ width. character_field width bytes) tt))
 
   take_safe : {w : World} (at : ℕ) (of : ReadSort) (file : Reference) → IsText g w file → Safe g w acts reach (Sorted sort.Ordinal) (take_value at of file)
   take_safe at reads.Integer file s = read_integer_safe at file s
@@ -176,9 +187,8 @@ module _ (g : Given) (self : Self) (good : SelfSafe g self) (acts : List Activat
       bind_safe (eval_safe g self good acts path ts labels opened at x.value h c.0) (λ a la v worth.
       bind_safe (width_safe x.of x.width (at_later la h) c.2) (λ b lb width any.
       bind_safe (field_safe at x.of v (let later = sorted_later {s = sort_in x.value} lb (record { by = worth.sorted }) in subst (λ s. SortHas b s v) c.1 later.by)) (λ d ld bytes any.
-      then_safe (unless_fault (int_lt (pos 0) width) at 14) (λ p lp y so.
-      then_safe (unless_limit (int_le width width_limit) at 3) (λ q lq z so.
-      write_bytes_safe at file (bytes (natural width)) (spot_later (then_later (then_later la lb) (then_later ld (then_later lp lq))) s))))))
+      then_safe (must_be_width_safe at width) (λ p lp y so.
+      write_bytes_safe at file (bytes (width_of width)) (spot_later (then_later (then_later la lb) (then_later ld lp)) s)))))
 
   write_all_safe : {w : World} (file : Reference) (writings : List PlainWriting) → At g w acts path ts opened → IsText g w file → Each (CheckedWriting (context g path ts labels)) writings → Safe g w acts (Within labels) Any (write_all g.program self opened at file writings)
   write_all_safe file [] h s c = skip_safe tt

@@ -1,6 +1,7 @@
 -- Reading and setting variables of checked programs.
 use Rattle.std.proofs.Common.{◌≡◌, ℕ, zero, suc, List, [], ◌∷◌, Option, Some, None, Bool, true, false, refl, sym, ap, ◌∙◌, subst, eqb-true, ◌+◌, ◌≤◌, arith}
 use Rattle.std.specs.Prelude.{◌&&◌, ◌||◌, nat_eq, nat_le, slice_get, ℤ}
+use Rattle.mp_base.specs.declared.limits.TheConstants.{CELL_LIMIT}
 use Rattle.mp_tables.specs.declared.types.TypeId.{TypeId}
 use Rattle.mp_tables.specs.declared.types.Slot.{Slot}
 use Rattle.mp_tables.specs.declared.types.RecordShape.{RecordShape}
@@ -18,7 +19,7 @@ use Rattle.mp_meaning.specs.Numbers.{lies_in, members_lie_in}
 use Rattle.mp_meaning.specs.Values.{Reference, Value, Undefined, Number, Members, Pointer, Routine, Refers, File, Structure, cleared, is_scalar, is_structure, is_plain, alike, can_retag, component, changed, retagged, selects, part_of, whole_of, number_in_whole}
 use Rattle.mp_meaning.specs.Configurations.{Configuration, Activation, Root, Object, with_root, set_root}
 use Rattle.mp_meaning.specs.Outcomes.{Action, wrong}
-use Rattle.mp_meaning.specs.Variables.{as_number, with_number, as_members, as_pointer, as_reference, defined, must_live, held, read, part, most_cells, retag, with_changed, set, must_fit, same_variant, assign, first_constant, pass, pass_all, object_root, object_of}
+use Rattle.mp_meaning.specs.Variables.{as_number, with_number, as_members, as_pointer, as_reference, defined, must_live, held, read, part, retag, with_changed, set, must_fit, same_variant, assign, first_constant, pass, pass_all, object_root, object_of}
 use Rattle.mp_meaning.proofs.SoundKinds.{IsOne, kind_cells, Given, Kind, Of, Numbers, Sets, Pointers, class, class_by, class_of_shape, part_kind, part_at, slot_kind, part_of_shape, World, Later, then_later, Spot, spot_later, Routed, domain, PointsTo, IfSingle, IfNumbers, IfSets, IfFile, IfPointers, IfParts, IfReferences, IfRoutines, HasKind, HasParts, Fits, fits_later}
 use Rattle.mp_tables.specs.declared.types.Part.{Part}
 use Rattle.mp_tables.specs.Checked.{IsSimple, Selected, tags, tags_part, tags_in}
@@ -321,17 +322,17 @@ tag_of g t slot x e = by_shape (shape_of g.tables t) refl e
 
 module _ {g : Given} {acts : List Activation} {reach : Reach} where
   -- a part of a variable, with the tree's offset
-  pub part_is_safe : {w : World} {k q : Kind} (r : Reference) (i before : ℕ) → Spot g k w r → part_kind g k i ≡ Some q → (total g (part_kind g k) i ≤ most_cells → before ≡ total g (part_kind g k) i) → Safe g w acts reach (λ u x. x ≡ part_of r i) (part r i before)
+  pub part_is_safe : {w : World} {k q : Kind} (r : Reference) (i before : ℕ) → Spot g k w r → part_kind g k i ≡ Some q → (total g (part_kind g k) i ≤ CELL_LIMIT → before ≡ total g (part_kind g k) i) → Safe g w acts reach (λ u x. x ≡ part_of r i) (part r i before)
   part_is_safe {w} {k} {q} r i before s e same =
       let p : PartStandsAt g k r i = part_stands_at r i (whole_kind g k i q e) s in
-      let within : offset r.type r.way + total g (part_kind g k) i ≤ most_cells = p.within in
+      let within : offset r.type r.way + total g (part_kind g k) i ≤ CELL_LIMIT = p.within in
       let is : before ≡ total g (part_kind g k) i = same (omega arith) in
-      let small : offset r.type r.way + before ≤ most_cells = subst (λ n. offset r.type r.way + n ≤ most_cells) (sym is) within in
+      let small : offset r.type r.way + before ≤ CELL_LIMIT = subst (λ n. offset r.type r.way + n ≤ CELL_LIMIT) (sym is) within in
       then_safe (unless_true (nat_eq (leaves_before_in (component r.type r.way) i) before) wrong (subst (λ n. nat_eq n before ≡ true) (sym (p.before ∙ sym is)) (nat_eq_refl before))) (λ u l x any.
-      then_safe (unless_true (nat_le (offset r.type r.way + before) most_cells) wrong (nat_le_is (offset r.type r.way + before) most_cells small)) (λ u' l' y any.
+      then_safe (unless_true (nat_le (offset r.type r.way + before) CELL_LIMIT) wrong (nat_le_is (offset r.type r.way + before) CELL_LIMIT small)) (λ u' l' y any.
       gives_safe (part_of r i) refl))
 
-  pub part_safe : {w : World} {k q : Kind} (r : Reference) (i before : ℕ) → Spot g k w r → part_kind g k i ≡ Some q → (total g (part_kind g k) i ≤ most_cells → before ≡ total g (part_kind g k) i) → Safe g w acts reach (Spot g q) (part r i before)
+  pub part_safe : {w : World} {k q : Kind} (r : Reference) (i before : ℕ) → Spot g k w r → part_kind g k i ≡ Some q → (total g (part_kind g k) i ≤ CELL_LIMIT → before ≡ total g (part_kind g k) i) → Safe g w acts reach (Spot g q) (part r i before)
   part_safe {q} r i before s e same = weaker (part_is_safe r i before s e same) (λ u l x is. subst (Spot g q u) (sym is) (part_spot r i (spot_later l s) e))
 
   pub set_safe : {w : World} {k : Kind} (at : ℕ) (r : Reference) (v : Value) → Spot g k w r → Fits g k w v → Safe g w acts reach Any (set at r v)
@@ -345,7 +346,7 @@ module _ {g : Given} {acts : List Activation} {reach : Reach} where
       let new = fits_later l f in
       let one : IsOne (class g (Of (Some c))) = ordinal_one g c ordinal in
       let part : part_kind g (Of (Some t)) (number_in_whole r) ≡ Some (Of (Some c)) = record_part g t fields (number_in_whole r) s c e is of in
-      let small : kind_cells g (Of (Some t)) ≤ most_cells = spot_small (whole_of r) spot in
+      let small : kind_cells g (Of (Some t)) ≤ CELL_LIMIT = spot_small (whole_of r) spot in
       let can : can_retag (number_in_whole r) cells whole ≡ true = can_retag_is g t fields (number_in_whole r) s whole cells e is (subst (λ o. IsOne (class g (Of o))) (sym of) one) stands small (has_shape g u (Of (Some t)) whole fits.by) in
       then_safe (unless_true (is_scalar v && can_retag (number_in_whole r) cells whole) wrong (both (is_scalar v) (can_retag (number_in_whole r) cells whole) (scalar_one g (Of (Some c)) v one (has_shape g u (Of (Some c)) v new.by)) can)) (λ u' l' x any.
       update_safe (with_changed (whole_of r) (retagged (number_in_whole r) v cells))

@@ -1,6 +1,8 @@
 -- How the value of a variable is shown, by its type.
 use Rattle.std.specs.Prelude.{ℕ, zero, suc, Bool, true, false, not, ◌&&◌, List, [], ◌∷◌, ◌++◌, length, map, Option, Some, None, nat_eq, nat_le, slice_get, decimal, codes, ℤ, pos}
 use Rattle.std.specs.List.{list_all, flat_map}
+use Rattle.std.specs.Fmt.{signed_decimal}
+use Rattle.mp_files.specs.WrittenFields.{truth_text}
 use Rattle.mp_tables.specs.declared.types.TypeId.{TypeId}
 use Rattle.mp_tables.specs.declared.types.TypeId.TheVariants as type
 use Rattle.mp_tables.specs.declared.types.Bounds.{Bounds}
@@ -12,7 +14,7 @@ use Rattle.mp_tables.specs.declared.types.RecordShape.{RecordShape}
 use Rattle.mp_tables.specs.declared.types.Shape.{Shape}
 use Rattle.mp_tables.specs.declared.types.Shape.TheVariants as shape
 use Rattle.mp_meaning.specs.Numbers.{natural, same_number}
-use Rattle.mp_meaning.specs.WrittenFields.{decimal_text, truth_text}
+use Rattle.mp_meaning.specs.Operators.{is_true}
 use Rattle.mp_meaning.specs.Values.{Value, Undefined, Number, Members, Pointer, Routine, Refers, File, Structure, Values, NoValues, Then, value_at, selects, characters_in}
 
 -- ---- texts
@@ -60,8 +62,8 @@ base_host _ = type.Integer
 
 module _ (shapes : TypeId → Option Shape) where
   abbrev pub ordinal_text : (host : TypeId) → ℤ → List ℕ
-  ordinal_text type.Integer n = decimal_text n
-  ordinal_text type.Boolean n = truth_text n
+  ordinal_text type.Integer n = signed_decimal n
+  ordinal_text type.Boolean n = truth_text (is_true n)
   ordinal_text type.Char n = character_text (natural n)
   ordinal_text type.Text n = []
   ordinal_text (type.Own path ordinal) n = name_of (slice_get (constant_names (shapes (type.Own path ordinal))) (natural n))

@@ -2,12 +2,14 @@
 -- a disposed variable, 9 for an undefined value, 10 for a variant that is not active.
 use Rattle.std.specs.Prelude.{ℕ, zero, suc, ◌+◌, nat_le, Bool, ◌&&◌, List, [], ◌∷◌, Option, Some, None, ℤ, slice_get, nat_eq}
 use Rattle.std.specs.List.{list_any}
+use Rattle.mp_base.specs.declared.limits.TheConstants.{CELL_LIMIT}
 use Rattle.mp_tables.specs.declared.typed_expressions.Check.{Check}
 use Rattle.mp_tables.specs.declared.typed_expressions.Check.TheVariants as check
 use Rattle.mp_tables.specs.declared.typed_expressions.Guard.{Guard}
 use Rattle.mp_tables.specs.declared.typed_statements.Tagging.{Tagging}
+use Rattle.mp_meaning.specs.Faults.{disposed_variable, nil_pointer, outside_type, undefined_value, variant_not_active}
 use Rattle.mp_meaning.specs.Numbers.{lies_in, members_lie_in}
-use Rattle.mp_meaning.specs.TextFiles.{TextFile}
+use Rattle.mp_files.specs.TextFiles.{TextFile}
 use Rattle.mp_meaning.specs.Values.{Reference, Value, Undefined, Number, Members, Pointer, Routine, Refers, File, cleared, is_scalar, is_structure, is_plain, alike, can_retag, component, changed, retagged, selects, part_of, whole_of, number_in_whole}
 use Rattle.mp_meaning.specs.Leaves.{leaves_before_in, offset}
 use Rattle.mp_meaning.specs.Configurations.{Configuration, set_root}
@@ -48,7 +50,7 @@ as_file _ = wrong
 
 -- an undefined value is fault 9
 abbrev pub defined : (at : ℕ) → Value → Action Value
-defined at Undefined = fault at 9
+defined at Undefined = fault at undefined_value
 defined at v = gives v
 
 -- a defined value of one cell
@@ -64,7 +66,7 @@ as_scalar _ = wrong
 abbrev pub must_live : (at : ℕ) → Reference → Command
 must_live at r = do
   c ← now
-  unless (c.roots r.root).live (fault at 8)
+  unless (c.roots r.root).live (fault at disposed_variable)
 
 -- the value of a variable, be it defined or not
 abbrev pub held : (at : ℕ) → Reference → Action Value
@@ -74,15 +76,11 @@ held at r = do
   unless (alike r.type (c.roots r.root).value) wrong
   needs (component (c.roots r.root).value r.way)
 
--- no variable has more cells than a program may have
-abbrev pub most_cells : ℕ
-most_cells = 1000000
-
--- its component of this number, before which so many cells stand
+-- its component of this number, before which so many cells stand: no variable has more than a run may have
 abbrev pub part : Reference → (number before : ℕ) → Action Reference
 part r k before = do
   unless (nat_eq (leaves_before_in (component r.type r.way) k) before) wrong
-  unless (nat_le (offset r.type r.way + before) most_cells) wrong
+  unless (nat_le (offset r.type r.way + before) CELL_LIMIT) wrong
   gives (part_of r k)
 
 -- the value of a variable that is read
@@ -113,10 +111,10 @@ retag at r v cells = do
 abbrev pub must_fit : (at : ℕ) → Check → Value → Command
 must_fit at (check.Range low high) v = do
   n ← as_number v
-  unless (lies_in low high n) (fault at 3)
+  unless (lies_in low high n) (fault at outside_type)
 must_fit at (check.Members low high) v = do
   members ← as_members v
-  unless (members_lie_in low high members) (fault at 3)
+  unless (members_lie_in low high members) (fault at outside_type)
 must_fit at check.Pointer v = do
   _ ← as_pointer v
   skip
@@ -145,7 +143,7 @@ first_constant (n ∷ more) = Number n
 
 -- A variant without a tag field is selected where the variable is formed to be set, and else the access is fault 10.
 abbrev pub select : (at : ℕ) → (setting : Bool) → Reference → Guard → Command
-select at setting tag g = choose (setting && g.hidden) (retag at tag (first_constant g.constants) g.cells) (fault at 10)
+select at setting tag g = choose (setting && g.hidden) (retag at tag (first_constant g.constants) g.cells) (fault at variant_not_active)
 
 -- the variant must be active
 abbrev pub pass : (at : ℕ) → (setting : Bool) → Reference → Guard → Command
@@ -167,9 +165,9 @@ abbrev pub object_root : Configuration → ℕ → Option ℕ
 object_root c k = elim (slice_get c.objects k) as (λ o. Option ℕ) [ None ↦ None | Some o ↦ Some o.root ]
 
 abbrev pub object_of : (at : ℕ) → (object : ℕ) → Action Reference
-object_of at zero = fault at 7
+object_of at zero = fault at nil_pointer
 object_of at (suc k) = do
   c ← now
   root ← needs (object_root c k)
-  unless (c.roots root).live (fault at 8)
+  unless (c.roots root).live (fault at disposed_variable)
   gives (record { root = root; way = []; type = cleared (c.roots root).value })
