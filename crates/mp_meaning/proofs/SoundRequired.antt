@@ -25,14 +25,14 @@ use Rattle.mp_files.specs.declared.causes.TheConstants.{WIDTH_BELOW_ONE, WIDTH_T
 use Rattle.mp_files.specs.WrittenFields.{integer_field, character_field, truth_field, width_refusal, width_of}
 use Rattle.mp_meaning.specs.Forms.{cells_of}
 use Rattle.mp_meaning.specs.Operators.{is_true}
-use Rattle.mp_meaning.specs.Values.{Reference, Value, Pointer, Structure, Values, NoValues, Then, undefined, is_structure, string_in, values_in, values_from, first_values, laid_over}
+use Rattle.mp_meaning.specs.Values.{Reference, Value, Pointer, Structure, Values, NoValues, Then, undefined, is_structure, string_in, values_in, values_from, first_values, laid_over, is_scalar}
 use Rattle.mp_meaning.specs.Configurations.{Configuration, Activation, Root, Object, live_cells}
 use Rattle.mp_tables.specs.Sizes.{saturated}
 use Rattle.mp_meaning.specs.Outcomes.{wrong, ◌>>◌, update, limit, unless}
 use Rattle.mp_meaning.specs.Variables.{set}
 use Rattle.mp_meaning.specs.Calls.{Self}
 use Rattle.mp_meaning.specs.RequiredProcedures.{must_be_width, on_file_procedure, default_width, defined_string, field, take_value, with_object, make, disposed, dispose, pack, unpack, read_all, eval_width, write_one, write_all, required}
-use Rattle.mp_meaning.proofs.SoundKinds.{kind_cells, Given, Kind, Of, class_of_shape, domain_of, World, Later, then_later, Spot, spot_later, PointsTo, IfPointers, HasKind, HasParts, fits_later}
+use Rattle.mp_meaning.proofs.SoundKinds.{kind_cells, Given, Kind, Of, class_of_shape, domain_of, World, Later, then_later, Spot, spot_later, PointsTo, IfPointers, HasKind, HasParts, fits_later, IsOne}
 use Rattle.mp_meaning.proofs.SoundFrames.{type_has}
 use Rattle.mp_meaning.proofs.SoundOutcomes.{limit_safe, unless_true, nat_eq_refl, Sane, activations_later, Reach, Within, Sound, Safe, Any, sound_earlier, bind_safe, then_safe, gives_safe, skip_safe, fault_safe, choose_safe, unless_fault, update_safe}
 use Rattle.mp_meaning.proofs.SoundVariables.{SortHas, Sorted, sorted_later, check_has, number_fits, root_cases, as_number_safe, as_pointer_safe, held_safe, must_fit_safe, set_safe, assign_safe, IsTag, field_later, object_safe}
@@ -40,6 +40,7 @@ use Rattle.mp_meaning.proofs.SoundOperators.{IsText, write_bytes_safe, write_lin
 use Rattle.mp_meaning.proofs.SoundNumbers.{packed_within}
 use Rattle.mp_meaning.proofs.SoundCalls.{context, At, at_later, SelfSafe, grown, grown_kind, grown_later, sane_grown}
 use Rattle.mp_meaning.proofs.SoundExpressions.{array_kinds, array_has, array_values, Walked, eval_safe, form_safe, eval_number_safe}
+use Rattle.mp_meaning.proofs.SoundCells.{scalar_one, has_shape}
 
 -- ---- components of arrays
 
@@ -112,9 +113,10 @@ module _ {g : Given} {acts : List Activation} {reach : Reach} where
       ((set_safe {reach = reach} at r (Pointer (suc (length c.objects))) (spot_later later s) (record { by = has })).by (with_object (g.program.form d) c) after e))
 
   make_safe : {w : World} (at : ℕ) (d t : TypeId) (n : ℕ) (r : Reference) → Spot g (Of (Some t)) w r → shape_of g.tables t ≡ Some (shape.Ptr (Some d)) → n ≡ saturated (cells_of (g.program.form d)) → Safe g w acts reach Any (make at (g.program.form d) n r)
-  make_safe at d t n r s is counts = bind_safe (held_safe at r s) (λ u l v any. record {
-    by = λ c sane e. make_sound at d t n r c sane e (spot_later l s) is counts (nat_le (live_cells c + n) CELL_LIMIT) refl;
-  })
+  make_safe at d t n r s is counts = bind_safe (held_safe at r s) (λ u l old fits.
+      then_safe (unless_true (is_scalar old) wrong (scalar_one g (Of (Some t)) old (subst IsOne (sym (ap (class_of_shape t) is)) tt) (has_shape g u (Of (Some t)) old fits.by))) (λ u1 l1 x any. record {
+        by = λ c sane e. make_sound at d t n r c sane e (spot_later (then_later l l1) s) is counts (nat_le (live_cells c + n) CELL_LIMIT) refl;
+      }))
 
   dispose_safe : {w : World} (at o : ℕ) → PointsTo w None o → Safe g w acts reach Any (dispose at o)
   dispose_safe at o h = bind_safe {P = Any} (object_safe at o None h (λ x typed c sane u l. tt)) (λ u l r any. update_safe (disposed r) (λ c sane. sane_disposed g u c r sane) (λ c. refl) tt)

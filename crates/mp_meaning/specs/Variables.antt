@@ -12,7 +12,7 @@ use Rattle.mp_meaning.specs.Numbers.{lies_in, members_lie_in}
 use Rattle.mp_files.specs.TextFiles.{TextFile}
 use Rattle.mp_meaning.specs.Values.{Reference, Value, Undefined, Number, Members, Pointer, Routine, Refers, File, cleared, is_scalar, is_structure, is_plain, alike, can_retag, component, changed, retagged, selects, part_of, whole_of, number_in_whole}
 use Rattle.mp_meaning.specs.Leaves.{leaves_before_in, offset}
-use Rattle.mp_meaning.specs.Configurations.{Configuration, set_root}
+use Rattle.mp_meaning.specs.Configurations.{Configuration, set_root, find_activation}
 use Rattle.mp_meaning.specs.Outcomes.{Action, Command, ◌>>=◌, ◌>>◌, gives, skip, update, now, fault, wrong, needs, choose, unless}
 
 -- ---- what a value is
@@ -40,9 +40,13 @@ abbrev pub as_reference : Value → Action Reference
 as_reference (Refers root way type) = gives (record { root = root; way = way; type = type })
 as_reference _ = wrong
 
-abbrev pub as_routine : Value → Action Value
-as_routine (Routine path parent) = gives (Routine path parent)
-as_routine _ = wrong
+-- a procedure or function whose static parent is live (6.6.3.4)
+abbrev pub as_live_routine : Value → Action Value
+as_live_routine (Routine path parent) = do
+  c ← now
+  _ ← needs (find_activation c.activations parent)
+  gives (Routine path parent)
+as_live_routine _ = wrong
 
 abbrev pub as_file : Value → Action TextFile
 as_file (File f) = gives f
