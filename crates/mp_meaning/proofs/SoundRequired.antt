@@ -1,6 +1,6 @@
 -- Calls of required procedures in checked programs.
-use Rattle.std.proofs.Common.{◌≡◌, ℕ, zero, suc, ◌+◌, ◌≤◌, List, [], ◌∷◌, ◌++◌, Option, Some, None, Bool, true, false, refl, sym, ap, ◌∙◌, subst, arith}
-use Rattle.std.specs.Prelude.{if◌then◌else◌, ◌-◌, ◌&&◌, nat_eq, length, slice_get, nat_le, ℤ, pos, ◌+ℤ◌, ◌-ℤ◌, int_le, int_lt}
+use Rattle.std.proofs.Common.{◌≡◌, ℕ, zero, suc, ◌+◌, ◌≤◌, List, [], ◌∷◌, ◌++◌, Option, Some, None, Bool, true, false, refl, sym, ap, ◌∙◌, subst, arith, eqb-true}
+use Rattle.std.specs.Prelude.{if◌then◌else◌, ◌-◌, ◌&&◌, nat_eq, length, slice_get, nat_le, ℤ, pos, ◌+ℤ◌, ◌-ℤ◌, int_le, int_lt, is_none}
 use Rattle.mp_base.specs.declared.limits.TheConstants.{CELL_LIMIT, WIDTH_LIMIT}
 use Rattle.mp_tables.specs.declared.types.TypeId.{TypeId}
 use Rattle.mp_tables.specs.declared.types.TypeId.TheVariants as type
@@ -26,21 +26,22 @@ use Rattle.mp_files.specs.WrittenFields.{integer_field, character_field, truth_f
 use Rattle.mp_meaning.specs.Forms.{cells_of}
 use Rattle.mp_meaning.specs.Operators.{is_true}
 use Rattle.mp_meaning.specs.Values.{Reference, Value, Pointer, Structure, Values, NoValues, Then, undefined, is_structure, string_in, values_in, values_from, first_values, laid_over, is_scalar}
-use Rattle.mp_meaning.specs.Configurations.{Configuration, Activation, Root, Object, live_cells}
+use Rattle.mp_meaning.specs.Configurations.{Configuration, Activation, Root, Object, live_cells, find_activation}
 use Rattle.mp_tables.specs.Sizes.{saturated}
 use Rattle.mp_meaning.specs.Outcomes.{wrong, ◌>>◌, update, limit, unless}
 use Rattle.mp_meaning.specs.Variables.{set}
 use Rattle.mp_meaning.specs.Calls.{Self}
 use Rattle.mp_meaning.specs.RequiredProcedures.{must_be_width, on_file_procedure, default_width, defined_string, field, take_value, with_object, make, disposed, dispose, pack, unpack, read_all, eval_width, write_one, write_all, required}
-use Rattle.mp_meaning.proofs.SoundKinds.{kind_cells, Given, Kind, Of, class_of_shape, domain_of, World, Later, then_later, Spot, spot_later, PointsTo, IfPointers, HasKind, HasParts, fits_later, IsOne}
+use Rattle.mp_meaning.proofs.SoundKinds.{kind_cells, Given, Kind, Of, class_of_shape, domain_of, World, Later, then_later, Spot, spot_later, PointsTo, IfPointers, HasKind, HasParts, fits_later, IsOne, Frame}
 use Rattle.mp_meaning.proofs.SoundFrames.{type_has}
-use Rattle.mp_meaning.proofs.SoundOutcomes.{limit_safe, unless_true, nat_eq_refl, Sane, activations_later, Reach, Within, Sound, Safe, Any, sound_earlier, bind_safe, then_safe, gives_safe, skip_safe, fault_safe, choose_safe, unless_fault, update_safe}
+use Rattle.mp_meaning.proofs.SoundOutcomes.{limit_safe, unless_true, nat_eq_refl, Sane, activations_later, Reach, Within, Sound, Safe, Any, sound_earlier, bind_safe, then_safe, gives_safe, skip_safe, fault_safe, choose_safe, unless_fault, update_safe, ActivationsFit}
 use Rattle.mp_meaning.proofs.SoundVariables.{SortHas, Sorted, sorted_later, check_has, number_fits, root_cases, as_number_safe, as_pointer_safe, held_safe, must_fit_safe, set_safe, assign_safe, IsTag, field_later, object_safe}
 use Rattle.mp_meaning.proofs.SoundOperators.{IsText, write_bytes_safe, write_line_safe, page_safe, put_safe, get_safe, read_line_safe, read_character_safe, read_integer_safe, reset_safe, rewrite_safe}
 use Rattle.mp_meaning.proofs.SoundNumbers.{packed_within}
 use Rattle.mp_meaning.proofs.SoundCalls.{context, At, at_later, SelfSafe, grown, grown_kind, grown_later, sane_grown}
 use Rattle.mp_meaning.proofs.SoundExpressions.{array_kinds, array_has, array_values, Walked, eval_safe, form_safe, eval_number_safe}
 use Rattle.mp_meaning.proofs.SoundCells.{scalar_one, has_shape}
+use Rattle.mp_meaning.proofs.SoundFiles.{all_open, at_standard, no_standard_array}
 
 -- ---- components of arrays
 
@@ -84,7 +85,45 @@ sane_disposed g w c o s = record {
   activations = s.activations;
   files = s.files;
   small = s.small;
+  typed = s.typed;
+  opened = root_cases (λ x. all_open x.value ≡ true) c.roots o.root (record (c.roots o.root) { live = false }) 0 (λ same. subst (λ n. all_open (c.roots n).value ≡ true) same s.opened) (λ differs. s.opened);
 }
+
+-- an object is no activation
+no_activation : (g : Given) (w : World) (acts : List Activation) (r : ℕ) (t : TypeId) → ActivationsFit g w acts → w.kind r ≡ Some (Of (Some t)) → find_activation acts r ≡ None
+no_activation g w [] r t fits e = refl
+no_activation g w (a ∷ older) r t fits e = by_number (no_activation g w older r t fits.1 e) (nat_eq a.number r) refl
+  where
+    by_number : find_activation older r ≡ None → (b : Bool) → nat_eq a.number r ≡ b → (elim b as (λ is. Option Activation) [ true ↦ Some a | false ↦ find_activation older r ]) ≡ None
+    by_number deeper true is =
+        let same : a.number ≡ r = eqb-true a.number r is in
+        let f = fits.0 in
+        let there : w.kind r ≡ Some (Frame a.block older) = subst (λ n. w.kind n ≡ Some (Frame a.block older)) same f.kind in
+        absurd (let f : ⊥ = cc in f)
+    by_number deeper false is = deeper
+
+slice_one : {X : Type 0} (xs : List X) (o x : X) (i : ℕ) → slice_get xs i ≡ None → slice_get (xs ++ o ∷ []) i ≡ Some x → o ≡ x
+slice_one [] o x zero e f = cc
+slice_one [] o x (suc i) e f = absurd (let f : ⊥ = cc in f)
+slice_one (y ∷ xs) o x zero e f = absurd (let f : ⊥ = cc in f)
+slice_one (y ∷ xs) o x (suc i) e f = slice_one xs o x i e f
+
+-- the objects with one more are of types
+last_typed : (g : Given) (w : World) (c : Configuration) (d : TypeId) (o : Object) → o.root ≡ c.next → Sane g w c → Later w (grown w c.next (Of (Some d)) (c.objects ++ o ∷ [])) → (i : ℕ) (x : Object) → slice_get (c.objects ++ o ∷ []) i ≡ Some x → (t : TypeId) × ((grown w c.next (Of (Some d)) (c.objects ++ o ∷ [])).kind x.root ≡ Some (Of (Some t)))
+last_typed g w c d o root sane later i x f = by_old (slice_get c.objects i) refl
+  where
+    v : World
+    v = grown w c.next (Of (Some d)) (c.objects ++ o ∷ [])
+
+    by_old : (there : Option Object) → slice_get c.objects i ≡ there → (t : TypeId) × (v.kind x.root ≡ Some (Of (Some t)))
+    by_old (Some y) e =
+        let one : Some y ≡ Some x = sym (slice_more c.objects (o ∷ []) i y e) ∙ f in
+        let same : y ≡ x = cc in
+        let z = sane.typed i y (ap (λ os. slice_get os i) (sym sane.objects) ∙ e) in
+        (z.0, subst (λ x. v.kind x.root ≡ Some (Of (Some z.0))) same (later.kind y.root (Of (Some z.0)) z.1))
+    by_old None e =
+        let same : o ≡ x = slice_one c.objects o x i e f in
+        (d, subst (λ x. v.kind x.root ≡ Some (Of (Some d))) same (subst (λ n. v.kind n ≡ Some (Of (Some d))) (sym root) (grown_kind w c.next (Of (Some d)) (c.objects ++ o ∷ []))))
 
 few_of : (n cells : ℕ) → nat_le (n + cells) CELL_LIMIT ≡ true → cells ≤ CELL_LIMIT
 few_of n cells h = grind arith
@@ -104,13 +143,14 @@ module _ {g : Given} {acts : List Activation} {reach : Reach} where
       let v : World = grown w c.next (Of (Some d)) objects in
       let later : Later w v = grown_later w c.next (Of (Some d)) objects (sane.fresh c.next (omega arith)) (λ i x f. slice_more c.objects (o ∷ []) i x (ap (λ os. slice_get os i) sane.objects ∙ f)) in
       let root : Root = record { value = undefined (g.program.form d); live = true } in
-      let after : Sane g v (with_object (g.program.form d) c) = sane_grown g w c (Of (Some d)) root objects c.activations sane later (type_has g v d) few (activations_later g c.activations later sane.activations) in
+      let after : Sane g v (with_object (g.program.form d) c) = sane_grown g w c (Of (Some d)) root objects c.activations sane later (type_has g v d) few (activations_later g c.activations later sane.activations)
+      (λ i x f. last_typed g w c d o refl sane later i x f) in
       let points : PointsTo v (domain_of (shape_of g.tables t)) (suc (length c.objects)) = (o, slice_last c.objects o, λ u f. let same : Some d ≡ Some u = ap domain_of (sym is) ∙ f in grown_kind w c.next (Of (Some d)) objects ∙ ap (λ o. Some (Of o)) same) in
       let has : HasKind g v (Of (Some t)) (Pointer (suc (length c.objects))) = subst (λ k. IfPointers k (PointsTo v (domain_of (shape_of g.tables t)) (suc (length c.objects)))) (sym (ap (class_of_shape t) is)) points in
       let same : nat_eq (cells_of (g.program.form d)) n ≡ true = subst (λ m. nat_eq m n ≡ true) exact (nat_eq_refl n) in
       subst (λ b. Sound g w acts reach Any ((unless b wrong >> (update (with_object (g.program.form d)) >> set at r (Pointer (suc (length c.objects))))) c)) (sym same)
       (sound_earlier (set at r (Pointer (suc (length c.objects))) (with_object (g.program.form d) c)) later
-      ((set_safe {reach = reach} at r (Pointer (suc (length c.objects))) (spot_later later s) (record { by = has })).by (with_object (g.program.form d) c) after e))
+      ((set_safe {reach = reach} at r (Pointer (suc (length c.objects))) (spot_later later s) (record { by = has }) (λ u l files first. refl)).by (with_object (g.program.form d) c) after e))
 
   make_safe : {w : World} (at : ℕ) (d t : TypeId) (n : ℕ) (r : Reference) → Spot g (Of (Some t)) w r → shape_of g.tables t ≡ Some (shape.Ptr (Some d)) → n ≡ saturated (cells_of (g.program.form d)) → Safe g w acts reach Any (make at (g.program.form d) n r)
   make_safe at d t n r s is counts = bind_safe (held_safe at r s) (λ u l old fits.
@@ -119,7 +159,13 @@ module _ {g : Given} {acts : List Activation} {reach : Reach} where
       }))
 
   dispose_safe : {w : World} (at o : ℕ) → PointsTo w None o → Safe g w acts reach Any (dispose at o)
-  dispose_safe at o h = bind_safe {P = Any} (object_safe at o None h (λ x typed c sane u l. tt)) (λ u l r any. update_safe (disposed r) (λ c sane. sane_disposed g u c r sane) (λ c. refl) tt)
+  dispose_safe at o h =
+      bind_safe {P = λ u r. (t : TypeId) × (u.kind r.root ≡ Some (Of (Some t)))} (object_safe at o None h (λ i x is typed c sane u l. let y = sane.typed i x is in (y.0, l.kind x.root (Of (Some y.0)) y.1)))
+      (λ u l r typed. record {
+        by = λ c sane e.
+            (then_safe {Q = Any} (unless_true (is_none (find_activation c.activations r.root)) wrong (ap is_none (no_activation g u c.activations r.root typed.0 sane.activations typed.1))) (λ u' l' x any.
+            update_safe (disposed r) (λ c sane. sane_disposed g u' c r sane) (λ c. refl) tt)).by c sane e;
+      })
 
   -- ---- files and fields
 
@@ -177,7 +223,7 @@ module _ (g : Given) (self : Self) (good : SelfSafe g self) (acts : List Activat
       then_safe (must_fit_safe at r.target.check v (check_has g b k.of sort.Ordinal r.target.check v k.sorted k.tested sorted.by)) (λ d ld x any.
       let n = sorted.by in
       let fits : HasKind g d (Of (Some k.of)) v = subst (HasKind g d (Of (Some k.of))) (sym n.1) (number_fits g d k.of n.0 k.sorted) in
-      then_safe (assign_safe at r.target.tagging target v (spot_later (then_later lb ld) walked.spot) (tag_later g (Of (Some k.of)) target r.target.tagging (then_later lb ld) (tag_is k.leads.0 r.target.tagging r.target.access.selectors k.tagged walked)) (record { by = fits })) (λ q lq y any.
+      then_safe (assign_safe at r.target.tagging target v (spot_later (then_later lb ld) walked.spot) (tag_later g (Of (Some k.of)) target r.target.tagging (then_later lb ld) (tag_is k.leads.0 r.target.tagging r.target.access.selectors k.tagged walked)) (record { by = fits }) (ap all_open n.1)) (λ q lq y any.
       read_all_safe file more (at_later (then_later (then_later la lb) (then_later ld lq)) h) (spot_later (then_later (then_later la lb) (then_later ld lq)) s) c.1))))
 
   width_safe : {w : World} (of : WriteSort) (width : Option PlainTypedExpr) → At g w acts path ts opened → CheckedWidth (context g path ts labels) width → Safe g w acts (Within labels) Any (eval_width g.program self opened at of width)
@@ -212,7 +258,8 @@ module _ (g : Given) (self : Self) (good : SelfSafe g self) (acts : List Activat
       (record {
         by = array_has g d path ts labels k.packed low high p.size k.component (first_values p.count (values_from first (values_in v))) k.count.2
             (subst (λ m. HasParts g d (array_kinds m k.component) (first_values p.count (values_from first (values_in v)))) (ap natural k.count.3) parts);
-      })))
+      })
+      (λ u l files first. let shape = k.count.2 in absurd (no_standard_array g k.packed shape.array shape.shape (at_standard z (spot_later (then_later (then_later lb ld) l) sz) files first)))))
 
   unpack_safe : {w : World} (p : PlainPacking) (a z : Reference) (i : ℤ) (k : CheckedPacking (context g path ts labels) p) → Spot g (Of (Some k.unpacked)) w a → Spot g (Of (Some k.packed)) w z → Safe g w acts (Within labels) Any (unpack at p a z i)
   unpack_safe p a z i k sa sz =
@@ -231,7 +278,8 @@ module _ (g : Given) (self : Self) (good : SelfSafe g self) (acts : List Activat
             (subst (λ v. HasParts g q (array_kinds n k.component) (laid_over first (values_in v) (values_in old))) (sym new.is)
             (subst (λ old. HasParts g q (array_kinds n k.component) (laid_over first new.values (values_in old))) (sym before.is)
             (over_parts g q k.component first m n new.values before.values new.parts before.parts)));
-      }))))
+      })
+      (λ u l files first. absurd (no_standard_array g k.unpacked k.first.array k.first.shape (at_standard a (spot_later (then_later (then_later (then_later lb ld) lq) l) sa) files first))))))
 
   pub required_safe : {w : World} (call : PlainRequiredCall) → At g w acts path ts opened → CheckedRequired (context g path ts labels) call → Safe g w acts (Within labels) Any (required g.program self opened at call)
   required_safe (tree.File f access) h c =

@@ -20,7 +20,7 @@ use Rattle.mp_meaning.specs.Values.{Reference, Value, Undefined, Number, Members
 use Rattle.mp_meaning.specs.Configurations.{Configuration, Activation, Root, Object, with_root, set_root}
 use Rattle.mp_meaning.specs.Outcomes.{Action, wrong}
 use Rattle.mp_meaning.specs.Variables.{as_number, with_number, as_members, as_pointer, as_reference, defined, must_live, held, read, part, retag, with_changed, set, must_fit, same_variant, assign, first_constant, pass, pass_all, object_root, object_of}
-use Rattle.mp_meaning.proofs.SoundKinds.{IsOne, kind_cells, Given, Kind, Of, Numbers, Sets, Pointers, class, class_by, class_of_shape, part_kind, part_at, slot_kind, part_of_shape, World, Later, then_later, Spot, spot_later, Routed, domain, PointsTo, IfSingle, IfNumbers, IfSets, IfFile, IfPointers, IfParts, IfReferences, IfRoutines, HasKind, HasParts, Fits, fits_later}
+use Rattle.mp_meaning.proofs.SoundKinds.{IsOne, kind_cells, Given, Kind, Of, Numbers, Sets, Pointers, class, class_by, class_of_shape, part_kind, part_at, slot_kind, part_of_shape, World, Later, then_later, Spot, spot_later, Routed, domain, PointsTo, IfSingle, IfNumbers, IfSets, IfFile, IfPointers, IfParts, IfReferences, IfRoutines, HasKind, HasParts, Fits, fits_later, Files}
 use Rattle.mp_tables.specs.declared.types.Part.{Part}
 use Rattle.mp_tables.specs.Checked.{IsSimple, Selected, tags, tags_part, tags_in}
 use Rattle.std.specs.List.{list_any}
@@ -31,6 +31,7 @@ use Rattle.mp_meaning.specs.Offsets.{PartStands, GuardStands, GuardsStand}
 use Rattle.mp_meaning.proofs.SoundCells.{both, has_shape, cleared_shape, alike_is, scalar_one, total, spot_small, PartStandsAt, part_stands_at, field_offset, can_retag_is}
 use Rattle.mp_meaning.proofs.SoundValues.{whole_kind, component_has, changed_has, retagged_has}
 use Rattle.mp_meaning.proofs.SoundOutcomes.{unless_true, nat_eq_refl, nat_le_is, Sane, Reach, Safe, Any, bind_safe, then_safe, gives_safe, skip_safe, fault_safe, needs_safe, choose_safe, unless_fault, weaker, update_safe}
+use Rattle.mp_meaning.proofs.SoundFiles.{all_open, plain_open, component_open, KeepsOpen, changed_open, at_standard, no_standard_record}
 
 -- ---- the values of sorts
 
@@ -161,6 +162,13 @@ range_sort g t low high f = (f.0, f.1, by_shape f.0 f.2)
     by_shape (shape.Str b) e = absurd (let h : ⊥ = cc in h)
     by_shape shape.Text e = absurd (let h : ⊥ = cc in h)
 
+-- what passes a test holds no file
+pub check_open : (fit : Check) (v : Value) → CheckHas fit v → all_open v ≡ true
+check_open (check.Range low high) v h = ap all_open h.1
+check_open (check.Members low high) v h = ap all_open h.1
+check_open check.Pointer v h = ap all_open h.1
+check_open (check.Block cells) v h = plain_open v h.1
+
 -- ---- roots with a value changed
 
 pub root_cases : (P : Root → Type 0) (roots : ℕ → Root) (r : ℕ) (new : Root) (q : ℕ) → (q ≡ r → P new) → (nat_eq q r ≡ false → P (roots q)) → P (with_root roots r new q)
@@ -171,14 +179,16 @@ root_cases P roots r new q here there = by_test (nat_eq q r) refl
     by_test false e = there e
 
 -- another value of the same kind under a root
-pub sane_root : (g : Given) (w : World) (c : Configuration) (r : ℕ) (k : Kind) (new : Root) → Sane g w c → w.kind r ≡ Some k → HasKind g w k new.value → Sane g w (set_root r new c)
-sane_root g w c r k new s e h = record {
+pub sane_root : (g : Given) (w : World) (c : Configuration) (r : ℕ) (k : Kind) (new : Root) → Sane g w c → w.kind r ≡ Some k → HasKind g w k new.value → (r ≡ 0 → all_open new.value ≡ true) → Sane g w (set_root r new c)
+sane_root g w c r k new s e h opened = record {
   values = λ q m f. root_cases (λ x. HasKind g w m x.value) c.roots r new q (λ same. let one : Some k ≡ Some m = sym e ∙ subst (λ q. w.kind q ≡ Some m) same f in let two : k ≡ m = cc in subst (λ k. HasKind g w k new.value) two h) (λ differs. s.values q m f);
   fresh = s.fresh;
   objects = s.objects;
   activations = s.activations;
   files = s.files;
   small = s.small;
+  typed = s.typed;
+  opened = root_cases (λ x. all_open x.value ≡ true) c.roots r new 0 (λ same. opened (sym same)) (λ differs. s.opened);
 }
 
 -- ---- what a value is
@@ -204,14 +214,20 @@ module _ {g : Given} {acts : List Activation} {reach : Reach} where
   pub must_live_safe : {w : World} (at : ℕ) (r : Reference) → Safe g w acts reach Any (must_live at r)
   must_live_safe at r = record { by = λ c sane e. (weaker {Q = Any} (unless_fault (c.roots r.root).live at 8) (λ u l v h. tt)).by c sane e }
 
-  pub held_safe : {w : World} {k : Kind} (at : ℕ) (r : Reference) → Spot g k w r → Safe g w acts reach (Fits g k) (held at r)
-  held_safe {k} at r s = then_safe (must_live_safe at r) (λ u l v any. record {
+  -- the value is of the variable's kind, and in the standard files no file is closed
+  pub held_open_safe : {w : World} {k : Kind} (at : ℕ) (r : Reference) → Spot g k w r → Safe g w acts reach (λ u v. Fits g k u v × (r.root ≡ 0 → all_open v ≡ true)) (held at r)
+  held_open_safe {k} at r s = then_safe (must_live_safe at r) (λ u l v any. record {
     by = λ c sane e.
         let whole = sane.values r.root s.whole (l.kind _ _ s.root) in
         let x = component_has g u s.whole (c.roots r.root).value r.way k whole s.there in
-        (then_safe {Q = Fits g k} (unless_true (alike r.type (c.roots r.root).value) wrong (alike_is g s.whole r.type (c.roots r.root).value s.shape (has_shape g u s.whole (c.roots r.root).value whole))) (λ u' l' v any.
-        needs_safe {P = Fits g k} (component (c.roots r.root).value r.way) x.value x.found (fits_later l' (record { by = x.has })))).by c sane e;
+        let opens : r.root ≡ 0 → all_open x.value ≡ true =
+        λ first. component_open (c.roots r.root).value r.way x.value (subst (λ n. all_open (c.roots n).value ≡ true) (sym first) sane.opened) x.found in
+        (then_safe {Q = λ u v. Fits g k u v × (r.root ≡ 0 → all_open v ≡ true)} (unless_true (alike r.type (c.roots r.root).value) wrong (alike_is g s.whole r.type (c.roots r.root).value s.shape (has_shape g u s.whole (c.roots r.root).value whole))) (λ u' l' v any.
+        needs_safe {P = λ u v. Fits g k u v × (r.root ≡ 0 → all_open v ≡ true)} (component (c.roots r.root).value r.way) x.value x.found (fits_later l' (record { by = x.has }), opens))).by c sane e;
   })
+
+  pub held_safe : {w : World} {k : Kind} (at : ℕ) (r : Reference) → Spot g k w r → Safe g w acts reach (Fits g k) (held at r)
+  held_safe {k} at r s = weaker (held_open_safe at r s) (λ u l v h. h.0)
 
 -- a value that is defined
 pub record Known (g : Given) (k : Kind) (w : World) (v : Value) : Type 0 where
@@ -234,10 +250,15 @@ module _ {g : Given} {acts : List Activation} {reach : Reach} where
 
 -- ---- setting
 
-sane_changed : (g : Given) (w : World) (c : Configuration) (k : Kind) (r : Reference) (change : Value → Value) → Sane g w c → Spot g k w r → ((v : Value) → HasKind g w k v → HasKind g w k (change v)) → Sane g w (with_changed r change c)
-sane_changed g w c k r change sane s f =
+sane_changed : (g : Given) (w : World) (c : Configuration) (k : Kind) (r : Reference) (change : Value → Value) → Sane g w c → Spot g k w r → ((v : Value) → HasKind g w k v → HasKind g w k (change v)) → (r.root ≡ 0 → KeepsOpen change) → Sane g w (with_changed r change c)
+sane_changed g w c k r change sane s f opens =
     sane_root g w c r.root s.whole (record (c.roots r.root) { value = changed (c.roots r.root).value r.way change }) sane s.root
     (changed_has g w s.whole (c.roots r.root).value r.way k change (sane.values r.root s.whole s.root) s.there f)
+    (λ first. changed_open (c.roots r.root).value r.way change (opens first) (subst (λ n. all_open (c.roots n).value ≡ true) (sym first) sane.opened))
+
+-- a value that is set in a part of the standard files has no closed file
+abbrev pub MayStand : World → Reference → Value → Type 0
+MayStand w r v = (u : World) → Later w u → u.kind 0 ≡ Some Files → r.root ≡ 0 → all_open v ≡ true
 
 pub part_spot : {g : Given} {w : World} {k q : Kind} (r : Reference) (i : ℕ) → Spot g k w r → part_kind g k i ≡ Some q → Spot g q w (part_of r i)
 part_spot {g} r i s e = record { whole = s.whole; root = s.root; there = ap (λ o. part_at g o i) s.there ∙ e; shape = s.shape; small = s.small }
@@ -335,11 +356,11 @@ module _ {g : Given} {acts : List Activation} {reach : Reach} where
   pub part_safe : {w : World} {k q : Kind} (r : Reference) (i before : ℕ) → Spot g k w r → part_kind g k i ≡ Some q → (total g (part_kind g k) i ≤ CELL_LIMIT → before ≡ total g (part_kind g k) i) → Safe g w acts reach (Spot g q) (part r i before)
   part_safe {q} r i before s e same = weaker (part_is_safe r i before s e same) (λ u l x is. subst (Spot g q u) (sym is) (part_spot r i (spot_later l s) e))
 
-  pub set_safe : {w : World} {k : Kind} (at : ℕ) (r : Reference) (v : Value) → Spot g k w r → Fits g k w v → Safe g w acts reach Any (set at r v)
-  set_safe {k} at r v s f = bind_safe (held_safe at r s) (λ u l old fits.
+  pub set_safe : {w : World} {k : Kind} (at : ℕ) (r : Reference) (v : Value) → Spot g k w r → Fits g k w v → MayStand w r v → Safe g w acts reach Any (set at r v)
+  set_safe {k} at r v s f may = bind_safe (held_safe at r s) (λ u l old fits.
       let new = fits_later l f in
       then_safe (unless_true (alike old v) wrong (alike_is g k old v (has_shape g u k old fits.by) (has_shape g u k v new.by))) (λ u' l' x any.
-      update_safe (with_changed r (λ old. v)) (λ c sane. sane_changed g u' c k r (λ old. v) sane (spot_later (then_later l l') s) (λ x h. let y = fits_later l' new in y.by)) (λ c. refl) tt))
+      update_safe (with_changed r (λ old. v)) (λ c sane. sane_changed g u' c k r (λ old. v) sane (spot_later (then_later l l') s) (λ x h. let y = fits_later l' new in y.by) (λ first x e. may u' (then_later l l') sane.files first)) (λ c. refl) tt))
 
   pub retag_safe : {w : World} (at : ℕ) (r : Reference) (v : Value) (cells : ℕ) (t c : TypeId) (fields : RecordShape) (s : Slot) → Spot g (Of (Some t)) w (whole_of r) → shape_of g.tables t ≡ Some (shape.Rec fields) → slice_get fields.slots (number_in_whole r) ≡ Some s → s.of ≡ Some c → SortOf g c sort.Ordinal → PartStands g.program.form fields (number_in_whole r) cells → Fits g (Of (Some c)) w v → Safe g w acts reach Any (retag at r v cells)
   retag_safe at r v cells t c fields s spot e is of ordinal stands f = bind_safe (held_safe at (whole_of r) spot) (λ u l whole fits.
@@ -351,7 +372,8 @@ module _ {g : Given} {acts : List Activation} {reach : Reach} where
       then_safe (unless_true (is_scalar v && can_retag (number_in_whole r) cells whole) wrong (both (is_scalar v) (can_retag (number_in_whole r) cells whole) (scalar_one g (Of (Some c)) v one (has_shape g u (Of (Some c)) v new.by)) can)) (λ u' l' x any.
       update_safe (with_changed (whole_of r) (retagged (number_in_whole r) v cells))
       (λ c' sane. sane_changed g u' c' (Of (Some t)) (whole_of r) (retagged (number_in_whole r) v cells) sane (spot_later (then_later l l') spot)
-      (λ y h. let x = fits_later l' new in retagged_has g u' (Of (Some t)) (number_in_whole r) (Of (Some c)) v cells tt part x.by y h)) (λ c. refl) tt))
+      (λ y h. let x = fits_later l' new in retagged_has g u' (Of (Some t)) (number_in_whole r) (Of (Some c)) v cells tt part x.by y h)
+      (λ first. absurd (no_standard_record g t fields e (at_standard (whole_of r) (spot_later (then_later l l') spot) sane.files first)))) (λ c. refl) tt))
 
   pub must_fit_safe : {w : World} (at : ℕ) (fit : Check) (v : Value) → CheckHas fit v → Safe g w acts reach Any (must_fit at fit v)
   must_fit_safe at (check.Range low high) v h = bind_safe {P = Any} (as_number_safe v h.0 h.1 tt) (λ u l n any. weaker (unless_fault (lies_in low high n) at 3) (λ u l v h. tt))
@@ -360,11 +382,11 @@ module _ {g : Given} {acts : List Activation} {reach : Reach} where
   must_fit_safe at (check.Block cells) v h = unless_true (is_structure v && is_plain v) wrong (both (is_structure v) (is_plain v) h.0 h.1)
 
 module _ {g : Given} {acts : List Activation} {reach : Reach} where
-  pub assign_safe : {w : World} {k : Kind} (at : ℕ) (tagging : Option Tagging) (r : Reference) (v : Value) → Spot g k w r → IsTag g tagging k w r → Fits g k w v → Safe g w acts reach Any (assign at tagging r v)
-  assign_safe at None r v s tag f = set_safe at r v s f
-  assign_safe {k} at (Some t) r v s tag f =
+  pub assign_safe : {w : World} {k : Kind} (at : ℕ) (tagging : Option Tagging) (r : Reference) (v : Value) → Spot g k w r → IsTag g tagging k w r → Fits g k w v → all_open v ≡ true → Safe g w acts reach Any (assign at tagging r v)
+  assign_safe at None r v s tag f opens = set_safe at r v s f (λ u l files first. opens)
+  assign_safe {k} at (Some t) r v s tag f opens =
       bind_safe (held_safe at r s) (λ u l old h. choose_safe (same_variant t old v)
-      (λ is. set_safe at r v (spot_later l s) (fits_later l f))
+      (λ is. set_safe at r v (spot_later l s) (fits_later l f) (λ u l files first. opens))
       (λ is.
       let b = tag.0 in
       let field = tag.1 in
@@ -409,11 +431,11 @@ pub object_spot : (g : Given) (w : World) (c : Configuration) (root : ℕ) (k : 
 object_spot g w c root k sane e = record { whole = k; root = e; there = refl; shape = cleared_shape g k (c.roots root).value (has_shape g w k (c.roots root).value (sane.values root k e)); small = sane.small root k e }
 
 module _ {g : Given} {acts : List Activation} {reach : Reach} where
-  pub object_safe : {w : World} {P : World → Reference → Type 0} (at o : ℕ) (d : Option TypeId) → PointsTo w d o → ((x : Object) → ((t : TypeId) → d ≡ Some t → w.kind x.root ≡ Some (Of (Some t))) → (c : Configuration) → Sane g w c → (u : World) → Later w u → P u (record { root = x.root; way = []; type = cleared (c.roots x.root).value })) → Safe g w acts reach P (object_of at o)
+  pub object_safe : {w : World} {P : World → Reference → Type 0} (at o : ℕ) (d : Option TypeId) → PointsTo w d o → ((i : ℕ) (x : Object) → slice_get w.objects i ≡ Some x → ((t : TypeId) → d ≡ Some t → w.kind x.root ≡ Some (Of (Some t))) → (c : Configuration) → Sane g w c → (u : World) → Later w u → P u (record { root = x.root; way = []; type = cleared (c.roots x.root).value })) → Safe g w acts reach P (object_of at o)
   object_safe at zero d h f = fault_safe at 7
   object_safe {w} {P} at (suc i) d h f = record {
     by = λ c sane e.
         let found : object_root c i ≡ Some h.0.root = ap (λ objects. object_by (slice_get objects i)) sane.objects ∙ ap object_by h.1 in
         (bind_safe {P = λ u r. r ≡ h.0.root} {Q = P} (needs_safe (object_root c i) h.0.root found refl) (λ u l root same. then_safe (unless_fault (c.roots root).live at 8) (λ u' l' v live.
-        gives_safe (record { root = root; way = []; type = cleared (c.roots root).value }) (subst (λ root. P u' (record { root = root; way = []; type = cleared (c.roots root).value })) (sym same) (f h.0 h.2 c sane u' (then_later l l')))))).by c sane e;
+        gives_safe (record { root = root; way = []; type = cleared (c.roots root).value }) (subst (λ root. P u' (record { root = root; way = []; type = cleared (c.roots root).value })) (sym same) (f i h.0 h.1 h.2 c sane u' (then_later l l')))))).by c sane e;
   }
