@@ -362,17 +362,17 @@ module _ {g : Given} {acts : List Activation} {reach : Reach} where
       then_safe (unless_true (alike old v) wrong (alike_is g k old v (has_shape g u k old fits.by) (has_shape g u k v new.by))) (λ u' l' x any.
       update_safe (with_changed r (λ old. v)) (λ c sane. sane_changed g u' c k r (λ old. v) sane (spot_later (then_later l l') s) (λ x h. let y = fits_later l' new in y.by) (λ first x e. may u' (then_later l l') sane.files first)) (λ c. refl) tt))
 
-  pub retag_safe : {w : World} (at : ℕ) (r : Reference) (v : Value) (cells : ℕ) (t c : TypeId) (fields : RecordShape) (s : Slot) → Spot g (Of (Some t)) w (whole_of r) → shape_of g.tables t ≡ Some (shape.Rec fields) → slice_get fields.slots (number_in_whole r) ≡ Some s → s.of ≡ Some c → SortOf g c sort.Ordinal → PartStands g.program.form fields (number_in_whole r) cells → Fits g (Of (Some c)) w v → Safe g w acts reach Any (retag at r v cells)
-  retag_safe at r v cells t c fields s spot e is of ordinal stands f = bind_safe (held_safe at (whole_of r) spot) (λ u l whole fits.
+  pub retag_safe : {w : World} (at : ℕ) (r : Reference) (v : Value) (slots cells : ℕ) (t c : TypeId) (fields : RecordShape) (s : Slot) → Spot g (Of (Some t)) w (whole_of r) → shape_of g.tables t ≡ Some (shape.Rec fields) → slice_get fields.slots (number_in_whole r) ≡ Some s → s.of ≡ Some c → SortOf g c sort.Ordinal → PartStands g.program.form fields (number_in_whole r) slots cells → Fits g (Of (Some c)) w v → Safe g w acts reach Any (retag at r v slots cells)
+  retag_safe at r v slots cells t c fields s spot e is of ordinal stands f = bind_safe (held_safe at (whole_of r) spot) (λ u l whole fits.
       let new = fits_later l f in
       let one : IsOne (class g (Of (Some c))) = ordinal_one g c ordinal in
       let part : part_kind g (Of (Some t)) (number_in_whole r) ≡ Some (Of (Some c)) = record_part g t fields (number_in_whole r) s c e is of in
       let small : kind_cells g (Of (Some t)) ≤ CELL_LIMIT = spot_small (whole_of r) spot in
-      let can : can_retag (number_in_whole r) cells whole ≡ true = can_retag_is g t fields (number_in_whole r) s whole cells e is (subst (λ o. IsOne (class g (Of o))) (sym of) one) stands small (has_shape g u (Of (Some t)) whole fits.by) in
-      then_safe (unless_true (is_scalar v && can_retag (number_in_whole r) cells whole) wrong (both (is_scalar v) (can_retag (number_in_whole r) cells whole) (scalar_one g (Of (Some c)) v one (has_shape g u (Of (Some c)) v new.by)) can)) (λ u' l' x any.
-      update_safe (with_changed (whole_of r) (retagged (number_in_whole r) v cells))
-      (λ c' sane. sane_changed g u' c' (Of (Some t)) (whole_of r) (retagged (number_in_whole r) v cells) sane (spot_later (then_later l l') spot)
-      (λ y h. let x = fits_later l' new in retagged_has g u' (Of (Some t)) (number_in_whole r) (Of (Some c)) v cells tt part x.by y h)
+      let can : can_retag (number_in_whole r) slots cells whole ≡ true = can_retag_is g t fields (number_in_whole r) s whole slots cells e is (subst (λ o. IsOne (class g (Of o))) (sym of) one) stands small (has_shape g u (Of (Some t)) whole fits.by) in
+      then_safe (unless_true (is_scalar v && can_retag (number_in_whole r) slots cells whole) wrong (both (is_scalar v) (can_retag (number_in_whole r) slots cells whole) (scalar_one g (Of (Some c)) v one (has_shape g u (Of (Some c)) v new.by)) can)) (λ u' l' x any.
+      update_safe (with_changed (whole_of r) (retagged (number_in_whole r) v slots))
+      (λ c' sane. sane_changed g u' c' (Of (Some t)) (whole_of r) (retagged (number_in_whole r) v slots) sane (spot_later (then_later l l') spot)
+      (λ y h. let x = fits_later l' new in retagged_has g u' (Of (Some t)) (number_in_whole r) (Of (Some c)) v slots tt part x.by y h)
       (λ first. absurd (no_standard_record g t fields e (at_standard (whole_of r) (spot_later (then_later l l') spot) sane.files first)))) (λ c. refl) tt))
 
   pub must_fit_safe : {w : World} (at : ℕ) (fit : Check) (v : Value) → CheckHas fit v → Safe g w acts reach Any (must_fit at fit v)
@@ -398,9 +398,10 @@ module _ {g : Given} {acts : List Activation} {reach : Reach} where
       let part : part_kind g (Of (Some b.record_type)) (number_in_whole r) ≡ Some (Of (Some slot.1)) = record_part g b.record_type x.fields (number_in_whole r) slot.0 slot.1 x.shape_is there slot.3 in
       let one : Some k ≡ Some (Of (Some slot.1)) = sym field.part ∙ part in
       let same : k ≡ Of (Some slot.1) = cc in
-      let stands : PartStands g.program.form x.fields (number_in_whole r) t.cells =
-      subst (λ n. PartStands g.program.form x.fields n t.cells) (y.tag ∙ sym field.number) (subst (PartStands g.program.form x.fields y.part.tag) y.counts (g.cells.parts b.record_type x.fields x.shape_is y.number y.part y.is)) in
-      retag_safe at r v t.cells b.record_type slot.1 x.fields slot.0 (spot_later l field.spot) x.shape_is there slot.3 slot.4 stands (subst (λ k. Fits g k u v) same (fits_later l f))))
+      let stands : PartStands g.program.form x.fields (number_in_whole r) t.slots t.cells =
+      subst (λ n. PartStands g.program.form x.fields n t.slots t.cells) (y.tag ∙ sym field.number)
+      (subst (λ m. PartStands g.program.form x.fields y.part.tag m t.cells) y.slots (subst (PartStands g.program.form x.fields y.part.tag y.part.slots) y.counts (g.cells.parts b.record_type x.fields x.shape_is y.number y.part y.is))) in
+      retag_safe at r v t.slots t.cells b.record_type slot.1 x.fields slot.0 (spot_later l field.spot) x.shape_is there slot.3 slot.4 stands (subst (λ k. Fits g k u v) same (fits_later l f))))
 
   pass_safe : {w : World} (at : ℕ) (setting : Bool) (r : Reference) (x : Guard) (t : TypeId) (fields : RecordShape) → Spot g (Of (Some t)) w r → shape_of g.tables t ≡ Some (shape.Rec fields) → IsGuard g fields x → GuardStands g.program.form fields x → Safe g w acts reach Any (pass at setting r x)
   pass_safe at setting r x t fields s e h stands =
@@ -412,8 +413,8 @@ module _ {g : Given} {acts : List Activation} {reach : Reach} where
       choose_safe (selects v x.constants)
       (λ is. skip_safe tt)
       (λ not. choose_safe (setting && x.hidden)
-      (λ sets. subst (λ r. Safe g u1 acts reach Any (retag at r (first_constant x.constants) x.cells)) (sym is)
-      (retag_safe at (part_of r x.slot) (first_constant x.constants) x.cells t h.1 fields h.0 (spot_later (then_later l0 (then_later l l1)) s) e h.2 h.3 h.4 stands.1 (record { by = constant_fits g u1 h.1 x.constants h.4 })))
+      (λ sets. subst (λ r. Safe g u1 acts reach Any (retag at r (first_constant x.constants) x.slots x.cells)) (sym is)
+      (retag_safe at (part_of r x.slot) (first_constant x.constants) x.slots x.cells t h.1 fields h.0 (spot_later (then_later l0 (then_later l l1)) s) e h.2 h.3 h.4 stands.1 (record { by = constant_fits g u1 h.1 x.constants h.4 })))
       (λ not. fault_safe at 10)))))
 
 module _ {g : Given} {acts : List Activation} {reach : Reach} where

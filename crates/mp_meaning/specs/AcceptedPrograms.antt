@@ -47,7 +47,7 @@ pub record TypesAreRight (tables : List Table) (p : Program) : Type 0 where
       (outer path : Path) (b : PlainTypedBlock) (n : List ℕ) (f : Routine) (offset : ℕ) (t : TypeId) → declared_in tables outer n ≡ Some (decl.Func outer f offset) → f.block ≡ Some path →
       block_of p path ≡ Some b → (heading_of tables path).result ≡ Some t → IsResultAt b.frame offset
   pub fields : (t : TypeId) (r : RecordShape) → shape_of tables t ≡ Some (shape.Rec r) → Stand 0 (field_places p.form r.slots)
-  pub parts : (t : TypeId) (r : RecordShape) → shape_of tables t ≡ Some (shape.Rec r) → (i : ℕ) (q : Part) → slice_get r.parts i ≡ Some q → PartStands p.form r q.tag q.cells
+  pub parts : (t : TypeId) (r : RecordShape) → shape_of tables t ≡ Some (shape.Rec r) → (i : ℕ) (q : Part) → slice_get r.parts i ≡ Some q → PartStands p.form r q.tag q.slots q.cells
   -- cells
   pub counted : (path : Path) (b : PlainTypedBlock) → block_of p path ≡ Some b → b.counted ≡ saturated (frame_cells p.form b.frame)
   pub cells : (t : TypeId) (x : Shape) → shape_of tables t ≡ Some x → table_cells x ≡ saturated (cells_of (p.form t))

@@ -103,12 +103,12 @@ set at r v = do
   unless (alike old v) wrong
   update (with_changed r (λ old. v))
 
--- a tag gets a value, and the variables that take so many cells behind it become undefined
-abbrev pub retag : (at : ℕ) → Reference → Value → (cells : ℕ) → Command
-retag at r v cells = do
+-- a tag gets a value, and the fields of its variants, the next so many behind it, become undefined
+abbrev pub retag : (at : ℕ) → Reference → Value → (slots cells : ℕ) → Command
+retag at r v slots cells = do
   whole ← held at (whole_of r)
-  unless (is_scalar v && can_retag (number_in_whole r) cells whole) wrong
-  update (with_changed (whole_of r) (retagged (number_in_whole r) v cells))
+  unless (is_scalar v && can_retag (number_in_whole r) slots cells whole) wrong
+  update (with_changed (whole_of r) (retagged (number_in_whole r) v slots))
 
 -- ---- the values of a type (6.4.6): what may not be stored is fault 3
 
@@ -134,7 +134,7 @@ same_variant t old new = list_any (λ g. selects old g.constants && selects new 
 abbrev pub set_tag : (at : ℕ) → Tagging → Reference → Value → Command
 set_tag at t r v = do
   old ← held at r
-  choose (same_variant t old v) (set at r v) (retag at r v t.cells)
+  choose (same_variant t old v) (set at r v) (retag at r v t.slots t.cells)
 
 -- a tested value is stored
 abbrev pub assign : (at : ℕ) → Option Tagging → Reference → Value → Command
@@ -147,7 +147,7 @@ first_constant (n ∷ more) = Number n
 
 -- A variant without a tag field is selected where the variable is formed to be set, and else the access is fault 10.
 abbrev pub select : (at : ℕ) → (setting : Bool) → Reference → Guard → Command
-select at setting tag g = choose (setting && g.hidden) (retag at tag (first_constant g.constants) g.cells) (fault at variant_not_active)
+select at setting tag g = choose (setting && g.hidden) (retag at tag (first_constant g.constants) g.slots g.cells) (fault at variant_not_active)
 
 -- the variant must be active
 abbrev pub pass : (at : ℕ) → (setting : Bool) → Reference → Guard → Command
