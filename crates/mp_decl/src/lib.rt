@@ -9,6 +9,8 @@ mod constants;
 mod known;
 mod names;
 mod types;
+mod walks;
 
 pub use constants::constant;
 pub use known::{Headed, Known, Shapes};
+pub use walks::{Walked, walk_all};
