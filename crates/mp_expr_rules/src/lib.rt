@@ -1,0 +1,14 @@
+//! Expressions judged: their types, their trees with resolved names, and their errors.
+//!
+//! The crate judges variables, operators, calls and expressions (ISO 7185, 6.5, 6.6.5, 6.6.6, 6.7, 6.9) by their own trees
+//! and a scope that knows what names are. It stands on `mp_ast`, `mp_tables`, `mp_types`, `mp_layout` and `mp_scope`, and
+//! is exact against the definitions of `mp_tables`: what is found, which errors are reported, and what the scope is asked.
+#![tactic(auto)]
+
+mod judged;
+mod names;
+mod operators;
+mod region;
+
+pub use judged::{Accessed, Entire, Expressed, Value};
+pub use region::{Field, Opened, Region};
