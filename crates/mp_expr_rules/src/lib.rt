@@ -5,10 +5,21 @@
 //! is exact against the definitions of `mp_tables`: what is found, which errors are reported, and what the scope is asked.
 #![tactic(auto)]
 
+mod fields;
 mod judged;
 mod names;
+mod nodes;
 mod operators;
 mod region;
+mod sorts;
+mod variables;
 
-pub use judged::{Accessed, Entire, Expressed, Value};
-pub use region::{Field, Opened, Region};
+pub use judged::{
+    Accessed, Entire, Expressed, Operand, Operated, Resulting, Selected, Step, Value, computed,
+    wrong,
+};
+pub use names::{typed, typed_if, used};
+pub use operators::{negated, operation, related_values};
+pub use region::{Field, OpenField, Opened, Region, Use};
+pub use sorts::{check_if, check_of, sort_of};
+pub use variables::{field_step, follow_step, index_step};

@@ -1,19 +1,29 @@
 // Operators (ISO 7185, 6.7.2): which operands each takes, and the type of its result.
-ghost use Rattle.std.specs.Prelude.{◌≡◌, IfOk, ◌&&◌};
+ghost use Rattle.std.specs.Prelude.{◌≡◌, ◌&&◌, IfOk, Some, is_some};
 ghost use Rattle.std.specs.Option.{option_map};
-ghost use Rattle.mp_tables.specs.Reports.{FollowsAs};
 ghost use Rattle.mp_tables.specs.declared.types.TypeId.TheVariants as type;
+ghost use Rattle.mp_tables.specs.PlainTypedExpressions as tree;
+ghost use Rattle.mp_tables.specs.PlainTypedExpressions.{plain_typed_expr};
+ghost use Rattle.mp_tables.specs.Reports.{FollowsAs};
+ghost use Rattle.mp_tables.specs.TypeRelations as relation;
+ghost use Rattle.mp_tables.specs.Variables as variable;
 ghost use Rattle.mp_tables.specs.Operators as rule;
-ghost use Rattle.mp_expr_rules.specs.Regions.{TypedStands, TypedIfStands};
-ghost use Rattle.mp_expr_rules.specs.Judged.{operated_of, resulting_of};
+ghost use Rattle.mp_types.specs.Values.{bounds_of, form_of};
+ghost use Rattle.mp_expr_rules.specs.Judged.{operated_of, resulting_of, value_of};
 
-use crate::judged::{Operated, Resulting};
+use crate::judged::{Operated, Resulting, Value, computed, wrong};
 use crate::names::report;
+use crate::nodes::{compare_node, in_node, not_node};
 use mp_ast::Operator;
 use mp_base::{MAXINT, Memory};
+use mp_layout::cells;
 use mp_scope::Scope;
-use mp_tables::{Bounds, RuleError, Shape, TypeId, Typed, TypedOperator};
-use mp_types::{compatible, has_host, required_shape};
+use mp_tables::{
+    Bounds, Comparison, RuleError, Shape, Sort, TypeId, Typed, TypedExpr, TypedOperator,
+};
+use mp_types::{
+    StringForm, Values, compatible, has_host, ordinal, required_shape, same, string_form,
+};
 use sqlite_items::Items;
 use std::alloc::Global;
 
@@ -145,8 +155,9 @@ fn operated(
     }
 }
 
-// The result of an operator, where its operands have types.
-pub(crate) fn operation<S: Scope>(
+/// What an operator makes of operands of these types, where it takes them (ISO 7185, 6.7.2.2 to 6.7.2.4). `at` is its
+/// ordinal.
+pub fn operation<S: Scope>(
     alloc: Global,
     at: u32,
     operator: Operator,
@@ -176,4 +187,249 @@ pub(crate) fn operation<S: Scope>(
             })
         }
     }
+}
+
+// ---- `not` (ISO 7185, 6.7.2.3)
+
+// The value of an operand behind `not`.
+fn negated_value(alloc: Global, node: TypedExpr) -> Result<Value, Memory>
+    ensures { IfOk result (λ v. value_of v ≡ variable.computed (Some rule.boolean) (tree.Not (plain_typed_expr node))) }
+{
+    let node = not_node(alloc, node)?;
+    let t = boolean(alloc)?;
+    Ok(computed(Some(t), node))
+}
+
+/// An operand of this type behind `not` (ISO 7185, 6.7.2.3), whose ordinal is `at`.
+pub fn negated<S: Scope>(
+    alloc: Global,
+    at: u32,
+    of: &Option<Typed>,
+    node: TypedExpr,
+    scope: &mut S,
+    errors: &mut Items<RuleError>,
+) -> Result<Value, Memory>
+    ensures { FollowsAs value_of (rule.negated at (variable.computed of.now (plain_typed_expr node))) (S.state scope.old) errors.old (S.state scope.new) errors.new result }
+{
+    let Some(t) = of else {
+        return Ok(wrong());
+    };
+    if has_host(&TypeId::Boolean, t) {
+        return negated_value(alloc, node);
+    }
+    report(330, at, errors)?;
+    Ok(wrong())
+}
+
+// ---- relational operators (ISO 7185, 6.7.2.5)
+
+// Whether two types are ordinal with one host.
+fn share_host(a: &Typed, b: &Typed) -> bool
+    ensures { result ≡ relation.both relation.same_host (relation.ordinal a.now) (relation.ordinal b.now) }
+{
+    match (ordinal(a), ordinal(b)) {
+        (Some(a), Some(b)) => same(a.host, b.host),
+        _ => false,
+    }
+}
+
+// Whether two types are strings of one length, as far as it is known.
+fn equal_length(a: StringForm, b: StringForm) -> bool
+    ensures { result ≡ relation.equal_length (form_of a) (form_of b) }
+{
+    match (a, b) {
+        (StringForm::NoString, _) => false,
+        (_, StringForm::NoString) => false,
+        (StringForm::OfLength(m), StringForm::OfLength(n)) => m == n,
+        _ => true,
+    }
+}
+
+// The sort of two values that all six relations compare.
+fn ordered_sort(a: &Typed, b: &Typed) -> Option<Sort>
+    ensures { result ≡ rule.ordered_sort a.now b.now }
+{
+    if share_host(a, b) {
+        return Some(Sort::Ordinal);
+    }
+    if equal_length(string_form(&a.shape), string_form(&b.shape)) {
+        return Some(Sort::Block(cells(&a.shape)));
+    }
+    None
+}
+
+// The sort of two sets that are compatible.
+fn set_sort(a: &Typed, b: &Typed) -> Option<Sort>
+    ensures { result ≡ rule.set_sort a.now b.now }
+{
+    match (&a.shape, &b.shape) {
+        (Shape::SetOf(_, _), Shape::SetOf(_, _)) => {
+            if compatible(a, b) {
+                Some(Sort::Set)
+            } else {
+                None
+            }
+        }
+        _ => None,
+    }
+}
+
+// The sort of two pointers that are compatible.
+fn pointer_sort(a: &Typed, b: &Typed) -> Option<Sort>
+    ensures { result ≡ rule.pointer_sort a.now b.now }
+{
+    match (&a.shape, &b.shape) {
+        (Shape::Ptr(_), Shape::Ptr(_)) => {
+            if compatible(a, b) {
+                Some(Sort::Pointer)
+            } else {
+                None
+            }
+        }
+        _ => None,
+    }
+}
+
+// The first of two sorts, or else the second.
+fn or_sort(a: Option<Sort>, b: Option<Sort>) -> Option<Sort>
+    ensures { result ≡ rule.or_sort a b }
+{
+    match a {
+        Some(sort) => Some(sort),
+        None => b,
+    }
+}
+
+// The sort of the two values that a relation but `in` compares, where it takes them.
+fn compared(comparison: Comparison, a: &Typed, b: &Typed) -> Option<Sort>
+    ensures { result ≡ rule.compared comparison a.now b.now }
+{
+    let ordered = ordered_sort(a, b);
+    match comparison {
+        Comparison::Less => ordered,
+        Comparison::Greater => ordered,
+        Comparison::LessOrEqual => or_sort(ordered, set_sort(a, b)),
+        Comparison::GreaterOrEqual => or_sort(ordered, set_sort(a, b)),
+        Comparison::Equal => or_sort(ordered, or_sort(set_sort(a, b), pointer_sort(a, b))),
+        Comparison::NotEqual => or_sort(ordered, or_sort(set_sort(a, b), pointer_sort(a, b))),
+    }
+}
+
+// Whether an ordinal may have the host of a base, as far as it is known.
+fn has_base_host(a: Option<Values<'_>>, base: &Option<Bounds>) -> bool
+    ensures { result ≡ is_some (option_map bounds_of a.entry) && relation.unless_missing relation.same_host (option_map bounds_of a.entry) base.now }
+{
+    match (a, base) {
+        (Some(a), Some(base)) => same(a.host, &base.host),
+        (Some(_), None) => true,
+        (None, _) => false,
+    }
+}
+
+// Whether these are an ordinal and a set whose base has its host.
+fn is_member(a: &Typed, b: &Typed) -> bool
+    ensures { result ≡ rule.is_member a.now b.now }
+{
+    match &b.shape {
+        Shape::SetOf(_, base) => has_base_host(ordinal(a), base),
+        Shape::Range(_) => false,
+        Shape::Names(_) => false,
+        Shape::Arr(_) => false,
+        Shape::Rec(_) => false,
+        Shape::Ptr(_) => false,
+        Shape::Text => false,
+        Shape::Str(_) => false,
+    }
+}
+
+// The relation that an operator is, but for `in`.
+fn comparison_of(operator: Operator) -> Option<Comparison>
+    ensures { result ≡ rule.comparison_of operator }
+{
+    match operator {
+        Operator::Equal => Some(Comparison::Equal),
+        Operator::NotEqual => Some(Comparison::NotEqual),
+        Operator::Less => Some(Comparison::Less),
+        Operator::LessOrEqual => Some(Comparison::LessOrEqual),
+        Operator::Greater => Some(Comparison::Greater),
+        Operator::GreaterOrEqual => Some(Comparison::GreaterOrEqual),
+        Operator::In => None,
+        Operator::Add => None,
+        Operator::Subtract => None,
+        Operator::Or => None,
+        Operator::Multiply => None,
+        Operator::Div => None,
+        Operator::Mod => None,
+        Operator::And => None,
+    }
+}
+
+// The tree of a relation, where it takes its operands.
+fn related(
+    alloc: Global,
+    comparison: Option<Comparison>,
+    a: &Typed,
+    b: &Typed,
+    x: TypedExpr,
+    y: TypedExpr,
+) -> Result<Option<TypedExpr>, Memory>
+    ensures { IfOk result (λ r. option_map plain_typed_expr r ≡ rule.related comparison a.now b.now (plain_typed_expr x) (plain_typed_expr y)) }
+{
+    match comparison {
+        None => {
+            if is_member(a, b) {
+                return Ok(Some(in_node(alloc, x, y)?));
+            }
+            Ok(None)
+        }
+        Some(comparison) => match compared(comparison, a, b) {
+            Some(sort) => Ok(Some(compare_node(alloc, sort, comparison, x, y)?)),
+            None => Ok(None),
+        },
+    }
+}
+
+// The value of a relation.
+fn related_value(alloc: Global, node: TypedExpr) -> Result<Value, Memory>
+    ensures { IfOk result (λ v. value_of v ≡ variable.computed (Some rule.boolean) (plain_typed_expr node)) }
+{
+    let t = boolean(alloc)?;
+    Ok(computed(Some(t), node))
+}
+
+// A relation, by its tree where it takes its operands.
+fn relation_by<S: Scope>(
+    alloc: Global,
+    at: u32,
+    node: Option<TypedExpr>,
+    scope: &mut S,
+    errors: &mut Items<RuleError>,
+) -> Result<Value, Memory>
+    ensures { FollowsAs value_of (rule.relation_by at (option_map plain_typed_expr node)) (S.state scope.old) errors.old (S.state scope.new) errors.new result }
+{
+    match node {
+        Some(node) => related_value(alloc, node),
+        None => {
+            report(330, at, errors)?;
+            Ok(wrong())
+        }
+    }
+}
+
+/// A relation between two values of these types (ISO 7185, 6.7.2.5). `at` is the ordinal of its operator.
+pub fn related_values<S: Scope>(
+    alloc: Global,
+    at: u32,
+    operator: Operator,
+    a: &Typed,
+    b: &Typed,
+    x: TypedExpr,
+    y: TypedExpr,
+    scope: &mut S,
+    errors: &mut Items<RuleError>,
+) -> Result<Value, Memory>
+    ensures { FollowsAs value_of (rule.relation_by at (rule.related (rule.comparison_of operator) a.now b.now (plain_typed_expr x) (plain_typed_expr y))) (S.state scope.old) errors.old (S.state scope.new) errors.new result }
+{
+    let node = related(alloc, comparison_of(operator), a, b, x, y)?;
+    relation_by(alloc, at, node, scope, errors)
 }

@@ -1,5 +1,5 @@
 use mp_base::{Name, Path};
-use mp_tables::{RecordShape, Slot};
+use mp_tables::{Decl, RecordShape, Slot};
 use sqlite_items::Items;
 
 /// A record that a `with` has opened, where it has a type, and how many were opened around it in the block.
@@ -22,6 +22,20 @@ pub struct Region {
 #[derive(Clone, Copy)]
 pub struct Field<'a> {
     pub of: &'a RecordShape,
-    pub number: u32,
+    pub number: usize,
     pub slot: &'a Slot,
+}
+
+/// A field of a record that a `with` has opened: the record's number, and the field.
+#[derive(Clone, Copy)]
+pub struct OpenField<'a> {
+    pub number: u32,
+    pub field: Field<'a>,
+}
+
+/// What a name is in a statement: a field of an open record hides what the blocks declare (ISO 7185, 6.8.3.10).
+#[derive(Drop)]
+pub enum Use<'a> {
+    OpenField(u32, Field<'a>),
+    Declared(Decl),
 }
