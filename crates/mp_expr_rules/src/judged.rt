@@ -8,7 +8,8 @@ use crate::nodes::{load_node, wrong_node};
 use crate::sorts::sort_of;
 use mp_base::{Name, Path};
 use mp_tables::{
-    ConstantValue, Tagging, Typed, TypedAccess, TypedExpr, TypedOperator, TypedSelector,
+    Callee, ConstantValue, FormalKind, Heading, Tagging, Typed, TypedAccess, TypedExpr,
+    TypedOperator, TypedSelector,
 };
 use sqlite_items::Items;
 
@@ -88,6 +89,32 @@ pub struct Selected {
 pub struct Operand {
     pub typed: Option<Typed>,
     pub node: TypedExpr,
+}
+
+/// A procedure or function that is called or passed on.
+#[derive(Drop)]
+pub struct Given {
+    pub kind: FormalKind,
+    /// Where its block is, unless it has none.
+    pub callee: Option<Callee>,
+    pub heading: Heading,
+}
+
+/// The width of a `write` parameter, with the ordinal of its `:`.
+#[derive(Drop)]
+pub struct JudgedWidth {
+    pub at: u32,
+    pub value: Expressed,
+}
+
+/// An actual parameter that was judged: its first token and its value, or what it names, where a procedure or function is
+/// wanted.
+#[derive(Drop)]
+pub struct Judged {
+    pub first: u32,
+    pub value: Expressed,
+    pub given: Option<Given>,
+    pub width: Option<JudgedWidth>,
 }
 
 /// An expression that is neither a variable nor a constant.

@@ -5,7 +5,9 @@
 //! is exact against the definitions of `mp_tables`: what is found, which errors are reported, and what the scope is asked.
 #![tactic(auto)]
 
+mod calls;
 mod fields;
+mod formals;
 mod judged;
 mod names;
 mod nodes;
@@ -22,4 +24,4 @@ pub use names::{typed, typed_if, used};
 pub use operators::{negated, operation, related_values};
 pub use region::{Field, OpenField, Opened, Region, Use};
 pub use sorts::{check_if, check_of, sort_of};
-pub use variables::{field_step, follow_step, index_step};
+pub use variables::{field_step, follow_step, index_step, threat, variable_use};

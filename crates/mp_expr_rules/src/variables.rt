@@ -1,24 +1,28 @@
 // Variables and their parts (ISO 7185, 6.5).
-ghost use Rattle.std.specs.Prelude.{◌≡◌, IfOk, None, Some, option_map};
-ghost use Rattle.mp_tables.specs.Reports.{FollowsAs};
+ghost use Rattle.std.specs.Prelude.{◌≡◌, IfOk, None, Some, bytes_eq, option_map};
+ghost use Rattle.std.specs.List.{list_any};
+ghost use Rattle.mp_tables.specs.declared.declarations.Decl.TheVariants as decl;
+ghost use Rattle.mp_tables.specs.Reports.{Follows, FollowsAs};
 ghost use Rattle.mp_tables.specs.declared.types.Shape.TheVariants as shape;
 ghost use Rattle.mp_tables.specs.PlainTypedExpressions.{plain_typed_expr, with_selector};
 ghost use Rattle.mp_tables.specs.Standing.{ShapeStands, TypeIfStands};
 ghost use Rattle.mp_tables.specs.Names as names;
 ghost use Rattle.mp_tables.specs.Variables as rule;
-ghost use Rattle.mp_expr_rules.specs.Regions.{TypedIfStands, field_of};
+ghost use Rattle.mp_ast.specs.Blocks as block;
+ghost use Rattle.mp_expr_rules.specs.Regions.{TypedIfStands, UseStands, field_of, region_of, use_of};
 ghost use Rattle.mp_expr_rules.specs.Judged.{AccessedIfStands, accessed_of, component_step, entire_of, operand_of, step_of};
 
 use crate::fields::field_at;
 use crate::judged::{Accessed, Entire, Operand, Step};
-use crate::names::{field_named, report, typed, typed_if};
-use crate::region::Field;
+use crate::names::{field_named, report, report_if, typed, typed_if};
+use crate::region::{Field, Region, Use};
 use mp_ast::Identifier;
 use mp_base::{Memory, Name, Path};
 use mp_scope::Scope;
 use mp_tables::{
-    ArrayShape, Bounds, Component, Located, RecordShape, Root, RuleError, Shape, Slot, Tagging,
-    TypeId, Typed, TypedAccess, TypedExpr, TypedSelector,
+    ArrayShape, Bounds, Component, Decl, FormalKind, Located, Parameter, RecordShape, Required,
+    Root, RuleError, Shape, Slot, Tagging, TypeId, Typed, TypedAccess, TypedExpr, TypedSelector,
+    Variable,
 };
 use mp_types::{ordinal, same};
 use sqlite_items::{Items, at as item_at};
@@ -380,4 +384,188 @@ fn open_variable<S: Scope>(
         tagging: tagging_of(field.of, field.slot)?,
         entire: None,
     }))
+}
+
+// What a variable declaration declares.
+fn block_variable<S: Scope>(
+    alloc: Global,
+    name: &Name,
+    path: &Path,
+    v: &Variable,
+    scope: &mut S,
+    errors: &mut Items<RuleError>,
+) -> Result<Option<Accessed>, Memory>
+    requires { TypeIfStands (S.state scope.old).stands v.now.of }
+    ensures follows { FollowsAs (option_map accessed_of) (rule.variable_use name.now (names.Declared (decl.Var path.now v.now))) (S.state scope.old) errors.old (S.state scope.new) errors.new result }
+    ensures stands { IfOk result (λ a. AccessedIfStands (S.state scope.old).stands a) }
+{
+    let entire = Entire {
+        name: name.copy()?,
+        path: path.copy()?,
+        control: v.control,
+    };
+    let root = Root::Own(located(name, path, v.offset)?);
+    declared_variable(alloc, root, Some(entire), &v.of, scope, errors)
+}
+
+// What a value or variable parameter is in its block.
+fn parameter_variable<S: Scope>(
+    alloc: Global,
+    name: &Name,
+    path: &Path,
+    p: &Parameter,
+    scope: &mut S,
+    errors: &mut Items<RuleError>,
+) -> Result<Option<Accessed>, Memory>
+    requires { TypeIfStands (S.state scope.old).stands p.now.of }
+    ensures follows { FollowsAs (option_map accessed_of) (rule.variable_use name.now (names.Declared (decl.Param path.now p.now))) (S.state scope.old) errors.old (S.state scope.new) errors.new result }
+    ensures stands { IfOk result (λ a. AccessedIfStands (S.state scope.old).stands a) }
+{
+    match p.kind {
+        FormalKind::Value => {
+            let root = Root::Own(located(name, path, p.offset)?);
+            declared_variable(alloc, root, None, &p.of, scope, errors)
+        }
+        FormalKind::Variable => {
+            let root = Root::Through(located(name, path, p.offset)?);
+            declared_variable(alloc, root, None, &p.of, scope, errors)
+        }
+        FormalKind::Procedure => Ok(None),
+        FormalKind::Function => Ok(None),
+    }
+}
+
+// A required identifier as a variable: only the standard files are.
+fn required_variable<S: Scope>(
+    alloc: Global,
+    name: &Name,
+    required: Required,
+    scope: &mut S,
+    errors: &mut Items<RuleError>,
+) -> Result<Option<Accessed>, Memory>
+    ensures follows { FollowsAs (option_map accessed_of) (rule.variable_use name.now (names.Declared (decl.Required required))) (S.state scope.old) errors.old (S.state scope.new) errors.new result }
+    ensures stands { IfOk result (λ a. AccessedIfStands (S.state scope.old).stands a) }
+{
+    match required {
+        Required::Input => declared_variable(
+            alloc,
+            Root::Input,
+            None,
+            &Some(TypeId::Text),
+            scope,
+            errors,
+        ),
+        Required::Output => declared_variable(
+            alloc,
+            Root::Output,
+            None,
+            &Some(TypeId::Text),
+            scope,
+            errors,
+        ),
+        Required::Integer => Ok(None),
+        Required::Boolean => Ok(None),
+        Required::Char => Ok(None),
+        Required::Text => Ok(None),
+        Required::False => Ok(None),
+        Required::True => Ok(None),
+        Required::Maxint => Ok(None),
+        Required::Real => Ok(None),
+        Required::Abs => Ok(None),
+        Required::Sqr => Ok(None),
+        Required::Odd => Ok(None),
+        Required::Ord => Ok(None),
+        Required::Succ => Ok(None),
+        Required::Pred => Ok(None),
+        Required::Chr => Ok(None),
+        Required::Eof => Ok(None),
+        Required::Eoln => Ok(None),
+        Required::Reset => Ok(None),
+        Required::Rewrite => Ok(None),
+        Required::Get => Ok(None),
+        Required::Put => Ok(None),
+        Required::Read => Ok(None),
+        Required::Readln => Ok(None),
+        Required::Write => Ok(None),
+        Required::Writeln => Ok(None),
+        Required::Page => Ok(None),
+        Required::New => Ok(None),
+        Required::Dispose => Ok(None),
+        Required::Pack => Ok(None),
+        Required::Unpack => Ok(None),
+    }
+}
+
+/// The variable that a name is, if it is one (ISO 7185, 6.5.1).
+pub fn variable_use<S: Scope>(
+    alloc: Global,
+    name: &Name,
+    u: &Use<'_>,
+    scope: &mut S,
+    errors: &mut Items<RuleError>,
+) -> Result<Option<Accessed>, Memory>
+    requires { UseStands (S.state scope.old).stands (S.state scope.old).path_stands (use_of name.now u.now) }
+    ensures follows { FollowsAs (option_map accessed_of) (rule.variable_use name.now (use_of name.now u.now)) (S.state scope.old) errors.old (S.state scope.new) errors.new result }
+    ensures stands { IfOk result (λ a. AccessedIfStands (S.state scope.old).stands a) }
+{
+    match u {
+        Use::OpenField(number, field) => open_variable(alloc, name, *number, *field, scope, errors),
+        Use::Declared(Decl::Var(path, v)) => block_variable(alloc, name, path, v, scope, errors),
+        Use::Declared(Decl::Param(path, p)) => {
+            parameter_variable(alloc, name, path, p, scope, errors)
+        }
+        Use::Declared(Decl::Required(required)) => {
+            required_variable(alloc, name, *required, scope, errors)
+        }
+        Use::Declared(Decl::Const(_, _)) => Ok(None),
+        Use::Declared(Decl::Sort(_, _)) => Ok(None),
+        Use::Declared(Decl::Proc(_, _)) => Ok(None),
+        Use::Declared(Decl::Func(_, _, _)) => Ok(None),
+        Use::Declared(Decl::Label(_, _)) => Ok(None),
+    }
+}
+
+// ---- control variables (ISO 7185, 6.8.3.9)
+
+// Whether two paths are those of one block.
+fn same_path(a: &Path, b: &Path) -> bool
+    ensures { result ≡ block.same_path a.now b.now }
+{
+    a == b
+}
+
+// Whether one of these names is this one.
+fn is_controlled(controlled: &[Name], name: &Name) -> bool
+    ensures { result ≡ list_any (bytes_eq name.now) controlled.now }
+{
+    controlled.iter().any(|n| *name == *n)
+}
+
+// Whether a variable may be threatened here.
+fn is_threat(region: &Region, e: &Entire) -> bool
+    ensures { result ≡ rule.is_threat (region_of region.now) (entire_of e.now) }
+{
+    if same_path(&e.path, &region.path) {
+        is_controlled(region.controlled.as_slice(), &e.name)
+    } else {
+        e.control
+    }
+}
+
+/// Whether a control variable is threatened, which is an error at this token.
+pub fn threat<S: Scope>(
+    region: &Region,
+    at: u32,
+    entire: &Option<Entire>,
+    scope: &mut S,
+    errors: &mut Items<RuleError>,
+) -> Result<bool, Memory>
+    ensures { Follows (rule.threat (region_of region.now) at (option_map entire_of entire.now)) (S.state scope.old) errors.old (S.state scope.new) errors.new result }
+{
+    let Some(e) = entire else {
+        return Ok(false);
+    };
+    let threatened = is_threat(region, e);
+    report_if(threatened, 347, at, scope, errors)?;
+    Ok(threatened)
 }
