@@ -1,6 +1,6 @@
 -- Calls one after another follow rules one after another, where each gives its result in a form of its own; and what a loop keeps
 -- that has followed a rule so far.
-use Rattle.std.proofs.Common.{◌≡◌, ℕ, false, List, [], ◌∷◌, ◌++◌, Result, Ok, Err, refl, sym, ap, ◌∙◌}
+use Rattle.std.proofs.Common.{◌≡◌, ℕ, false, List, [], ◌∷◌, ◌++◌, Result, Ok, Err, refl, ap, ◌∙◌}
 use Rattle.mp_tables.specs.declared.errors.RuleError.{RuleError}
 use Rattle.std.specs.Prelude.{IfOk}
 use Rattle.mp_base.specs.declared.memory.Memory.{Memory}

@@ -1,10 +1,10 @@
 -- How calls and their parameters are seen by the rules.
-use Rattle.std.specs.Prelude.{List, Option, Some, None, map, option_map}
+use Rattle.std.specs.Prelude.{List, Option, Some, None, option_map}
 use Rattle.std.specs.List.{AllByRecursion}
 use Rattle.mp_tables.specs.declared.typed_expressions.TypedExpr.{TypedExpr}
 use Rattle.mp_tables.specs.declared.typed_expressions.TypedActual.{TypedActual}
 use Rattle.mp_tables.specs.PlainTypedExpressions.{PlainTypedActuals, plain_typed_expr, with_actual}
-use Rattle.mp_tables.specs.Standing.{Types, TypeIfStands, HeadingStands}
+use Rattle.mp_tables.specs.Standing.{Types, HeadingStands}
 use Rattle.mp_tables.specs.Headings as heading
 use Rattle.mp_tables.specs.Calls as call
 use Rattle.mp_expr_rules.specs.declared.formals.FormalParameter.{FormalParameter}

@@ -1,5 +1,5 @@
 -- How what the code finds is seen by the rules.
-use Rattle.std.specs.Prelude.{List, Option, Some, None, option_map}
+use Rattle.std.specs.Prelude.{Option, Some, None, option_map}
 use Rattle.mp_tables.specs.declared.typed_expressions.TypedExpr.{TypedExpr}
 use Rattle.mp_tables.specs.declared.typed_expressions.TypedSelector.{TypedSelector}
 use Rattle.mp_tables.specs.PlainTypedExpressions.{PlainTypedExpr, PlainTypedSelectors, plain_typed_expr, plain_typed_access, selectors_of, with_selector}

@@ -1,5 +1,5 @@
 -- How what the code goes by is seen by the rules, and what stands in it.
-use Rattle.std.specs.Prelude.{ℕ, List, Option, Some, None, map, option_map}
+use Rattle.std.specs.Prelude.{ℕ, List, Option, Some, None, map}
 use Rattle.std.specs.List.{AllByRecursion}
 use Rattle.mp_tables.specs.declared.types.RecordShape.{RecordShape}
 use Rattle.mp_tables.specs.declared.types.Shape.TheVariants as shape
