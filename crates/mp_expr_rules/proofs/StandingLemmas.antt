@@ -18,7 +18,9 @@ pub slot_stands :
 slot_stands types n k [] p all h = absurd (let e : ⊥ = cc in e)
 slot_stands types n k (s ∷ slots) p all h = by (has_name n s.name) (slot_stands types n (k + 1) slots p all.1) h
   where
-    by : (b : Bool) → (numbered_slot n (k + 1) slots ≡ Some p → TypeIfStands types p.1.of) → cond b (Some (k, s)) (numbered_slot n (k + 1) slots) ≡ Some p → TypeIfStands types p.1.of
+    by :
+        (b : Bool) → (numbered_slot n (k + 1) slots ≡ Some p → TypeIfStands types p.1.of) → cond b (Some (k, s)) (numbered_slot n (k + 1) slots) ≡ Some p →
+        TypeIfStands types p.1.of
     by true f e = let w : (k, s) ≡ p = cc in subst (λ q. TypeIfStands types q.1.of) w all.0
     by false f e = f e
 
@@ -34,7 +36,9 @@ field_stands types n r f stands h = by (numbered_slot n 0 r.slots) (λ p e. slot
 open_stands : (types : Types) (paths : Paths) (n : List ℕ) (o : Opened) → RecordIfStands types o.fields → UseIfStands types paths (names.open_field o.number o.fields n)
 open_stands types paths n o stands = by o.fields stands
   where
-    by_field : (r : RecordShape) (f : Option names.Field) → ((g : names.Field) → f ≡ Some g → TypeIfStands types g.slot.of) → UseIfStands types paths (option_map (names.OpenField o.number) f)
+    by_field :
+        (r : RecordShape) (f : Option names.Field) → ((g : names.Field) → f ≡ Some g → TypeIfStands types g.slot.of) →
+        UseIfStands types paths (option_map (names.OpenField o.number) f)
     by_field r None own = tt
     by_field r (Some g) own = own g refl
 
