@@ -1,0 +1,5 @@
+pub mod PlainTypedLemmas
+pub mod StandingLemmas
+pub mod ListLemmas
+pub mod ComposedLemmas
+pub mod VariableLemmas
