@@ -12,5 +12,5 @@ mod types;
 mod walks;
 
 pub use constants::constant;
-pub use known::{Headed, Known, Shapes};
+pub use known::{Headed, Known};
 pub use walks::{Walked, walk_all};

@@ -1,8 +1,7 @@
 // The searches of the definitions over tables, which take no memory.
-ghost use Rattle.std.specs.Prelude.{◌≡◌, [], bytes_eq, find, nat_eq};
+ghost use Rattle.std.specs.Prelude.{◌≡◌, [], bytes_eq};
 ghost use Rattle.std.specs.List.{list_any};
-ghost use Rattle.std.specs.Option.{option_copied, option_map};
-ghost use Rattle.mp_ast.specs.Blocks as block;
+ghost use Rattle.std.specs.Option.{option_copied};
 ghost use Rattle.mp_tables.specs.declared.types.TypeId.TheVariants as type;
 ghost use Rattle.mp_tables.specs.RequiredNames as required;
 ghost use Rattle.mp_tables.specs.Seen as spec;
@@ -11,26 +10,14 @@ ghost use Rattle.mp_scope.specs.Lent.{seen_of};
 use crate::sight::Sight;
 use crate::tables::Tables;
 use mp_base::{Name, PathStep, Place};
-use mp_tables::{Nested, Shape, Shaped, Table};
+use mp_tables::{Nested, Shape, Table};
 use mp_types::required_name;
-
-fn find_nested<'a>(nested: &'a [Nested], step: &PathStep) -> Option<&'a Nested>
-    ensures { option_copied result ≡ find (λ x. block.same_step step.now x.step) nested.now }
-{
-    nested.iter().find(|x| *step == x.step)
-}
-
-fn find_shaped<'a>(shapes: &'a [Shaped], at: u32) -> Option<&'a Shaped>
-    ensures { option_copied result ≡ find (λ x. nat_eq x.at at) shapes.now }
-{
-    shapes.iter().find(|x| x.at == at)
-}
 
 fn nested_in<'a>(tables: &'a Tables, path: &[PathStep], step: &PathStep) -> Option<&'a Nested>
     ensures { option_copied result ≡ spec.nested_in tables.now path.now step.now }
 {
     match tables.at(path) {
-        Some(table) => find_nested(table.nested.as_slice(), step),
+        Some(table) => table.nested.get(step),
         None => None,
     }
 }
@@ -110,21 +97,12 @@ pub fn seen<'a>(tables: &'a Tables, name: &Name, place: &Place) -> Sight<'a>
     here(tables, steps, place.ordinal, name, sight)
 }
 
-fn shape_in<'a>(shapes: &'a [Shaped], at: u32) -> Option<&'a Shape>
-    ensures { option_copied result ≡ spec.shape_in shapes.now at }
-{
-    match find_shaped(shapes, at) {
-        Some(shaped) => Some(&shaped.shape),
-        None => None,
-    }
-}
-
 /// The shape of a type of a program, where a block with a table has it.
 pub fn own_shape<'a>(tables: &'a Tables, path: &[PathStep], at: u32) -> Option<&'a Shape>
     ensures { option_copied result ≡ spec.own_shape tables.now (type.Own path.now at) }
 {
     match tables.at(path) {
-        Some(table) => shape_in(table.shapes.as_slice(), at),
+        Some(table) => table.shapes.get(at),
         None => None,
     }
 }
