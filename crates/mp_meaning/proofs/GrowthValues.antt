@@ -1,14 +1,15 @@
 -- Values whose files have grown: in one form, each file with what it had before its position, and more.
 use Rattle.std.proofs.Common.{◌≡◌, ℕ, zero, suc, List, [], ◌∷◌, ◌++◌, Option, Some, None, Bool, true, false, refl, sym, ap, ◌∙◌, subst, append-nil, append_assoc}
-use Rattle.std.specs.Prelude.{◌+◌, ◌&&◌, if◌then◌else◌, nat_eq, take, drop, length, nat_lt, ℤ}
+use Rattle.std.specs.Prelude.{◌+◌, if◌then◌else◌, nat_eq, take, length, nat_lt}
 use Rattle.std.specs.List.{prefix_len}
 use Rattle.std.proofs.lemmas.Bool.{and_parts}
 use Rattle.mp_base.specs.declared.limits.TheConstants.{MAXINT}
 use Rattle.mp_files.specs.declared.causes.TheConstants.{END_OF_FILE, INTEGER_OVERFLOW, NO_NUMBER, WRONG_STATE}
 use Rattle.mp_files.specs.declared.items.Item.{Item}
-use Rattle.mp_files.specs.Items.{is_character, is_space}
-use Rattle.mp_files.specs.TextFiles.{TextFile, FileCall, Gives, Fails, is_reading, is_writing, is_nothing, in_reading, in_writing, at_item, moved, number_at, past_spaces, read_number, get, read_line, write_items, with_written, sign_len, is_negative, digits_of, value_of, signed}
-use Rattle.mp_meaning.specs.Values.{Value, Undefined, Number, Members, Pointer, Routine, Refers, File, Structure, Values, NoValues, Then, is_scalar, is_plain, all_plain, is_file, alike, all_alike, value_at, part_in, component, changed_at, changed_in, changed, cleared_first, retagged_at, retagged, can_retag_at, can_retag, cells_of_first}
+use Rattle.mp_files.specs.Items.{is_space, byte_of, bytes_of}
+use Rattle.mp_files.specs.TextFiles.{TextFile, FileCall, Gives, Fails, is_reading, is_writing, is_nothing, at_item, moved, number_at, past_spaces, read_number, get, read_line, write_items, with_written, sign_len, digits_of, value_of}
+use Rattle.mp_meaning.specs.Configurations.{Configuration, file_in, output_of}
+use Rattle.mp_meaning.specs.Values.{Value, Undefined, Number, Members, Pointer, Routine, Refers, File, Structure, Values, NoValues, Then, is_scalar, is_plain, all_plain, alike, all_alike, value_at, part_in, component, changed_at, changed_in, changed, cleared_first, retagged_at, retagged, can_retag_at, can_retag, cells_of_first}
 
 abbrev pub Longer : List Item → List Item → Type 0
 Longer xs ys = (more : List Item) × (ys ≡ xs ++ more)
@@ -324,3 +325,110 @@ read_number_grows f =
 
 pub write_grows : (items : List Item) (f : TextFile) → FileGrows f (write_items items f)
 write_grows items f = if_grows f (is_writing f.state) (Gives tt (with_written items f)) WRONG_STATE (items, refl)
+
+-- ---- the bytes of `output`
+
+abbrev GrownIf : Option Value → Option Value → Type 0
+GrownIf (Some v) (Some w) = Grown v w
+GrownIf None None = Unit {0}
+GrownIf o q = ⊥
+
+value_grown : (vs ws : Values) (i : ℕ) → AllGrown vs ws → GrownIf (value_at vs i) (value_at ws i)
+value_grown NoValues NoValues i g = tt
+value_grown NoValues (Then w ws) i g = absurd g
+value_grown (Then v vs) NoValues i g = absurd g
+value_grown (Then v vs) (Then w ws) zero g = g.0
+value_grown (Then v vs) (Then w ws) (suc i) g = value_grown vs ws i g.1
+
+no_part : (w : Value) (i : ℕ) → is_scalar w ≡ true → GrownIf None (part_in (Some w) i)
+no_part (Structure ws) i e = absurd (let f : ⊥ = cc in f)
+no_part (File g) i e = tt
+no_part Undefined i e = tt
+no_part (Number n) i e = tt
+no_part (Members set) i e = tt
+no_part (Pointer o) i e = tt
+no_part (Routine path parent) i e = tt
+no_part (Refers root way type) i e = tt
+
+part_of_value : (v w : Value) (i : ℕ) → Grown v w → GrownIf (part_in (Some v) i) (part_in (Some w) i)
+part_of_value (Structure vs) (Structure ws) i g = value_grown vs ws i g
+part_of_value (Structure vs) (File x) i g = absurd g
+part_of_value (Structure vs) Undefined i g = absurd g
+part_of_value (Structure vs) (Number n) i g = absurd g
+part_of_value (Structure vs) (Members set) i g = absurd g
+part_of_value (Structure vs) (Pointer o) i g = absurd g
+part_of_value (Structure vs) (Routine path parent) i g = absurd g
+part_of_value (Structure vs) (Refers root way type) i g = absurd g
+part_of_value (File a) (File b) i g = tt
+part_of_value (File a) (Structure ws) i g = absurd g
+part_of_value (File a) Undefined i g = absurd g
+part_of_value (File a) (Number n) i g = absurd g
+part_of_value (File a) (Members set) i g = absurd g
+part_of_value (File a) (Pointer o) i g = absurd g
+part_of_value (File a) (Routine path parent) i g = absurd g
+part_of_value (File a) (Refers root way type) i g = absurd g
+part_of_value Undefined w i g = no_part w i g
+part_of_value (Number n) w i g = no_part w i g
+part_of_value (Members set) w i g = no_part w i g
+part_of_value (Pointer o) w i g = no_part w i g
+part_of_value (Routine path parent) w i g = no_part w i g
+part_of_value (Refers root way type) w i g = no_part w i g
+
+part_grown : (o q : Option Value) (i : ℕ) → GrownIf o q → GrownIf (part_in o i) (part_in q i)
+part_grown (Some v) (Some w) i g = part_of_value v w i g
+part_grown None None i g = tt
+part_grown (Some v) None i g = absurd g
+part_grown None (Some w) i g = absurd g
+
+component_grown : (v w : Value) (way : List ℕ) → Grown v w → GrownIf (component v way) (component w way)
+component_grown v w [] g = g
+component_grown v w (i ∷ way) g = part_grown (component v way) (component w way) i (component_grown v w way g)
+
+no_file : (w : Value) → is_scalar w ≡ true → (file_in (Some w)).before ≡ []
+no_file (Structure ws) e = absurd (let f : ⊥ = cc in f)
+no_file (File g) e = absurd (let f : ⊥ = cc in f)
+no_file Undefined e = refl
+no_file (Number n) e = refl
+no_file (Members set) e = refl
+no_file (Pointer o) e = refl
+no_file (Routine path parent) e = refl
+no_file (Refers root way type) e = refl
+
+file_of_value : (v w : Value) → Grown v w → Longer (file_in (Some v)).before (file_in (Some w)).before
+file_of_value (Structure vs) (Structure ws) g = longer_itself []
+file_of_value (Structure vs) (File x) g = absurd g
+file_of_value (Structure vs) Undefined g = absurd g
+file_of_value (Structure vs) (Number n) g = absurd g
+file_of_value (Structure vs) (Members set) g = absurd g
+file_of_value (Structure vs) (Pointer o) g = absurd g
+file_of_value (Structure vs) (Routine path parent) g = absurd g
+file_of_value (Structure vs) (Refers root way type) g = absurd g
+file_of_value (File a) (File b) g = g
+file_of_value (File a) (Structure ws) g = absurd g
+file_of_value (File a) Undefined g = absurd g
+file_of_value (File a) (Number n) g = absurd g
+file_of_value (File a) (Members set) g = absurd g
+file_of_value (File a) (Pointer o) g = absurd g
+file_of_value (File a) (Routine path parent) g = absurd g
+file_of_value (File a) (Refers root way type) g = absurd g
+file_of_value Undefined w g = ([], no_file w g)
+file_of_value (Number n) w g = ([], no_file w g)
+file_of_value (Members set) w g = ([], no_file w g)
+file_of_value (Pointer o) w g = ([], no_file w g)
+file_of_value (Routine path parent) w g = ([], no_file w g)
+file_of_value (Refers root way type) w g = ([], no_file w g)
+
+file_grown : (o q : Option Value) → GrownIf o q → Longer (file_in o).before (file_in q).before
+file_grown (Some v) (Some w) g = file_of_value v w g
+file_grown None None g = longer_itself []
+file_grown (Some v) None g = absurd g
+file_grown None (Some w) g = absurd g
+
+bytes_append : (xs ys : List Item) → bytes_of (xs ++ ys) ≡ bytes_of xs ++ bytes_of ys
+bytes_append [] ys = refl
+bytes_append (x ∷ xs) ys = ap (λ l. byte_of x ∷ l) (bytes_append xs ys)
+
+pub output_grown : (c d : Configuration) → Grown (c.roots 0).value (d.roots 0).value → (more : List ℕ) × (output_of d ≡ output_of c ++ more)
+output_grown c d g =
+    let files = file_grown (component (c.roots 0).value (0 ∷ 1 ∷ [])) (component (d.roots 0).value (0 ∷ 1 ∷ [])) (component_grown (c.roots 0).value (d.roots 0).value (0 ∷ 1 ∷ []) g) in
+    (bytes_of files.0, ap bytes_of files.1 ∙ bytes_append (file_in (component (c.roots 0).value (0 ∷ 1 ∷ []))).before files.0)

@@ -1,5 +1,5 @@
 -- Calls and evaluation: an activation is made behind its static parent, and ended.
-use Rattle.std.proofs.Common.{◌≡◌, ℕ, ◌+◌, ◌<◌, ◌≤◌, List, [], ◌∷◌, Option, Some, None, Bool, true, false, refl, sym, ap, ◌∙◌, subst, arith, eqb-true}
+use Rattle.std.proofs.Common.{◌≡◌, ℕ, ◌+◌, ◌≤◌, List, [], ◌∷◌, Option, Some, None, Bool, true, false, refl, sym, ap, ◌∙◌, subst, arith, eqb-true}
 use Rattle.std.specs.Prelude.{nat_eq, nat_lt, nat_le, length, slice_get, not, ◌||◌, ◌*◌, ◌&&◌, ◌-ℤ◌}
 use Rattle.mp_base.specs.declared.limits.TheConstants.{ACTIVATION_LIMIT, CELL_LIMIT}
 use Rattle.mp_tables.specs.declared.typed_expressions.Located.{Located}
@@ -16,19 +16,18 @@ use Rattle.mp_tables.specs.Sizes.{saturated}
 use Rattle.mp_meaning.specs.Names.{Path}
 use Rattle.mp_meaning.specs.Numbers.{lies_in, natural}
 use Rattle.mp_files.specs.TextFiles.{eof, eoln}
-use Rattle.mp_meaning.specs.Values.{Reference, Value, Undefined, Number, Members, Pointer, Routine, Refers, File, Structure, Values, NoValues, Then, string_of, is_structure, is_plain, cells_in, cells_in_all, cleared}
+use Rattle.mp_meaning.specs.Values.{Reference, Value, Undefined, Number, Members, Pointer, Routine, Refers, File, Structure, Values, NoValues, Then, string_of, is_structure, is_plain, cells_in, cells_in_all}
 use Rattle.mp_meaning.specs.Programs.{Program, block_of, variable_number, result_number, parameter_count, frame_cells, frame_values, result_offset}
 use Rattle.mp_meaning.specs.Configurations.{Root as Held}
-use Rattle.mp_meaning.specs.Configurations.{holder, find_activation, live_cells, Activation, Configuration, with_root, without_root, ended_in, ended_until}
-use Rattle.mp_meaning.specs.Outcomes.{Outcome, Done, Jump, Fault, Limit, Hole, Paused, Spent, Wrong, Action, Command, bind, ◌>>=◌, ◌>>◌, needs, unless, choose, skip, limit, wrong, now}
+use Rattle.mp_meaning.specs.Configurations.{holder, find_activation, live_cells, Activation, Configuration, without_root, ended_in, ended_until}
+use Rattle.mp_meaning.specs.Outcomes.{Outcome, Done, Jump, Fault, Limit, Hole, Paused, Spent, Wrong, Action, bind, ◌>>=◌, ◌>>◌, needs, unless, choose, skip, limit, wrong}
 use Rattle.mp_meaning.specs.Calls.{Self, Task, Body, activation_at, block_in, variable_at, result_at, routine_of, count, entered, enter, must_have_room, hole, variables_of, call_block, call, left_behind, outward, leave_procedure, leave_function}
 use Rattle.mp_meaning.specs.Expressions.{goes_through, load, root_of, eval, eval_chain, eval_members, eval_actuals, walk, form, eval_number}
 use Rattle.mp_meaning.specs.Operators.{stands_in, is_true}
 use Rattle.mp_meaning.proofs.SteadyVariables.{number_steady, with_number_steady, members_steady, pointer_steady, reference_steady, defined_steady, held_steady, read_steady, must_fit_steady, pass_all_steady, object_steady, operate_steady, boolean_steady, sign_steady, part_steady, scalar_steady, routine_value_steady, compare_steady, with_member_steady, with_members_steady, apply_steady, ask_steady}
-
 use Rattle.mp_meaning.specs.Laws.{AreInOrder, HasParent, is_live}
 use Rattle.mp_meaning.proofs.GrowthValues.{Grown, grown_itself}
-use Rattle.mp_meaning.proofs.SteadyOutcomes.{Upright, Further, Goes, further_itself, further_still, tags_further, with_more, Onward, So, onward_still, onward_bind, so_bind, upright_done, onward_outward, so_outward, SteadyAt, Steady, bind_at, then_at, bind_with, bind_steady, then_steady, gives_steady, skip_steady, now_at, now_steady, fault_steady, limit_steady, wrong_steady, needs_steady, update_at, choose_at, choose_steady, unless_steady}
+use Rattle.mp_meaning.proofs.SteadyOutcomes.{Upright, Further, Goes, further_itself, further_still, tags_further, with_more, Onward, onward_still, onward_bind, so_bind, upright_done, onward_outward, so_outward, SteadyAt, Steady, bind_at, then_at, bind_steady, then_steady, gives_steady, skip_steady, now_at, now_steady, fault_steady, limit_steady, wrong_steady, needs_steady, update_at, choose_at, unless_steady}
 
 module _ {closed : Path → Bool} where
   -- ---- what is around the newest activation
@@ -125,7 +124,7 @@ until_more r (a ∷ older) more c = by (nat_eq a.number r) (until_more r older m
 abbrev Still : {A : Type 0} → Action A → Type 0
 Still {A} m = (b : Configuration) (v : A) (d : Configuration) → m b ≡ Done v d → d ≡ b
 
-needs_still : {A : Type 0} (o : Option A) → Still (needs o)
+pub needs_still : {A : Type 0} (o : Option A) → Still (needs o)
 needs_still None b v d e = absurd (let f : ⊥ = cc in f)
 needs_still (Some x) b v d e = cc
 
@@ -199,9 +198,11 @@ room_steady at cells = now_steady (λ more c. refl) (λ c.
     (unless_steady (nat_le (live_cells c + cells) CELL_LIMIT) (limit_steady at 2)))
 
 hole_steady : (p : Program) (path : Path) (at : ℕ) → Steady p.is_closed (choose (p.is_closed path) (hole path at) skip)
-hole_steady p path at = record { by = λ c. choose_at (p.is_closed path) c
-    (λ is. record { onward = λ up. record { by = (is, goes_itself c up) }; so = λ more up. record { by = refl } })
-    (λ is. skip_steady.by c) }
+hole_steady p path at = record {
+  by = λ c. choose_at (p.is_closed path) c
+      (λ is. record { onward = λ up. record { by = (is, goes_itself c up) }; so = λ more up. record { by = refl } })
+      (λ is. skip_steady.by c);
+}
 
 -- what all tasks do
 pub record SelfSteady (p : Program) (self : Self) : Type 0 where
@@ -225,8 +226,8 @@ module _ (p : Program) (self : Self) (good : SelfSteady p self) where
     so = λ more up.
         let goes = entered_goes at block parent actuals c has up in
         so_bind more done (outward c.next (self (Body block.path) (with_more more inside))) rest (so_outward c.next more _ _ (((good.by (Body block.path)).by inside).so more goes.0))
-            (λ v d e. ((f c.next).by d).so more (upright_done inside done v d (outside up) e))
-            (λ v d e up. ((f c.next).by d).onward up);
+        (λ v d e. ((f c.next).by d).so more (upright_done inside done v d (outside up) e))
+        (λ v d e up. ((f c.next).by d).onward up);
   }
     where
       inside : Configuration
@@ -254,9 +255,11 @@ module _ (p : Program) (self : Self) (good : SelfSteady p self) where
       enter_at at block parent actuals (leave block) d6 (subst (HasParent parent) (sym (a6 ∙ a5 ∙ a4 ∙ a3 ∙ a2 ∙ a1 ∙ d0)) has) (λ number. g block number))))))))
 
   pub call_steady : {A : Type 0} (at : ℕ) (f : Value) (actuals : Values) (leave : PlainTypedBlock → ℕ → Action A) → ((block : PlainTypedBlock) (number : ℕ) → Steady p.is_closed (leave block number)) → Steady p.is_closed (call p self at f actuals leave)
-  call_steady at (Routine path parent) actuals leave g = record { by = λ c. now_at {go = λ c. needs (find_activation c.activations parent) >>= (λ a. call_block p self at path parent actuals leave)} c (λ more c. refl) (bind_at c ((needs_steady (find_activation c.activations parent)).by c) (λ b a d roots acts e.
-      let same : d.activations ≡ c.activations = ap (λ d. d.activations) (needs_still (find_activation c.activations parent) b a d e) ∙ acts in
-      call_block_at at path parent actuals leave d (subst (HasParent parent) (sym same) (found_live c.activations parent a (needs_found (find_activation c.activations parent) b a d e))) g)) }
+  call_steady at (Routine path parent) actuals leave g = record {
+    by = λ c. now_at {go = λ c. needs (find_activation c.activations parent) >>= (λ a. call_block p self at path parent actuals leave)} c (λ more c. refl) (bind_at c ((needs_steady (find_activation c.activations parent)).by c) (λ b a d roots acts e.
+        let same : d.activations ≡ c.activations = ap (λ d. d.activations) (needs_still (find_activation c.activations parent) b a d e) ∙ acts in
+        call_block_at at path parent actuals leave d (subst (HasParent parent) (sym same) (found_live c.activations parent a (needs_found (find_activation c.activations parent) b a d e))) g));
+  }
   call_steady at Undefined actuals leave g = wrong_steady
   call_steady at (Number n) actuals leave g = wrong_steady
   call_steady at (Members set) actuals leave g = wrong_steady

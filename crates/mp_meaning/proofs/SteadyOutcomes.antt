@@ -1,11 +1,10 @@
 -- What each action keeps, and what it does with more starts left. It keeps the order of activations, and adds to the files
 -- and to the numbers that were given. With more starts left it comes to the same, with as many more left; where it pauses
 -- for want of a start it goes on, and adds to what there was at the pause.
-use Rattle.std.proofs.Common.{◌≡◌, ℕ, zero, suc, ◌+◌, ◌<◌, ◌≤◌, List, [], ◌∷◌, ◌++◌, Option, Some, None, Bool, true, false, refl, sym, ap, ◌∙◌, subst, arith}
+use Rattle.std.proofs.Common.{◌≡◌, ℕ, zero, suc, ◌+◌, ◌<◌, ◌≤◌, Option, Some, None, Bool, true, false, refl, sym, ap, ◌∙◌, subst, arith}
 use Rattle.std.specs.Prelude.{nat_eq}
 use Rattle.mp_meaning.specs.Names.{Path}
-use Rattle.mp_meaning.specs.Values.{Value}
-use Rattle.mp_meaning.specs.Configurations.{Configuration, Activation}
+use Rattle.mp_meaning.specs.Configurations.{Configuration}
 use Rattle.mp_meaning.specs.Outcomes.{Outcome, Done, Jump, Fault, Limit, Hole, Paused, Spent, Wrong, Action, Command, bind, ◌>>=◌, ◌>>◌, gives, skip, now, update, fault, limit, wrong, needs, choose, unless, begin, start}
 use Rattle.mp_meaning.specs.Calls.{outward}
 use Rattle.mp_meaning.specs.Laws.{AreInOrder}

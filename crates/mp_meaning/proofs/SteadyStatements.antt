@@ -1,6 +1,6 @@
 -- Required procedures, jumps, statements and runs.
-use Rattle.std.proofs.Common.{◌≡◌, ℕ, zero, suc, ◌+◌, List, [], ◌∷◌, ◌++◌, Option, Some, None, Bool, true, false, refl, sym, ap, ◌∙◌, subst, eqb-true, arith}
-use Rattle.std.specs.Prelude.{◌||◌, nat_eq, nat_le, length, ℤ, is_none}
+use Rattle.std.proofs.Common.{◌≡◌, ℕ, zero, suc, ◌+◌, List, [], ◌∷◌, ◌++◌, Option, Some, None, Bool, true, false, refl, sym, ap, subst, eqb-true, arith}
+use Rattle.std.specs.Prelude.{nat_eq, nat_le, length, ℤ, is_none}
 use Rattle.mp_base.specs.declared.limits.TheConstants.{CELL_LIMIT}
 use Rattle.mp_tables.specs.declared.typed_statements.ReadSort.{ReadSort}
 use Rattle.mp_tables.specs.declared.typed_statements.ReadSort.TheVariants as reads
@@ -19,16 +19,16 @@ use Rattle.mp_meaning.specs.Forms.{Form, cells_of}
 use Rattle.mp_meaning.specs.Values.{Values, Structure, undefined, is_scalar, Reference, Value, Undefined, Number, Pointer, is_structure, string_in}
 use Rattle.mp_meaning.specs.Programs.{Program, block_of, from_label, leads_into}
 use Rattle.mp_meaning.specs.Configurations.{Root, Configuration, newest, live_cells, find_activation}
-use Rattle.mp_meaning.specs.Outcomes.{Outcome, Done, Jump, Fault, Limit, Hole, Paused, Spent, Wrong, Command, bind, needs, ◌>>=◌, wrong, choose}
+use Rattle.mp_meaning.specs.Outcomes.{Outcome, Done, Jump, Fault, Limit, Hole, Paused, Spent, Wrong, Command}
 use Rattle.mp_meaning.specs.Names.{Path}
-use Rattle.mp_meaning.specs.Calls.{Self, Task, Body, WhileTurn, RepeatTurn, ForTurn, Again, block_in, leave_procedure}
+use Rattle.mp_meaning.specs.Calls.{Self, Task, Body, WhileTurn, RepeatTurn, ForTurn, Again, leave_procedure}
 use Rattle.mp_meaning.specs.RequiredProcedures.{on_file_procedure, default_width, must_be_width, defined_string, field, take_value, with_object, make, disposed, dispose, must_hold_all, set_array, pack, unpack, read_all, eval_width, write_one, write_all, required}
 use Rattle.mp_meaning.specs.Jumps.{jump, jump_out, go_to, go_on, caught, catch, alone}
 use Rattle.mp_meaning.specs.StatementKinds.{within, after, test, while_turn, repeat_turn, for_turn, for_statement, open_all}
 use Rattle.mp_meaning.specs.Statements.{exec, exec_all, exec_arm, exec_sequence, exec_block, exec_task, run}
 use Rattle.mp_meaning.specs.Operators.{is_true}
 use Rattle.mp_meaning.proofs.GrowthValues.{Grown, grown_itself}
-use Rattle.mp_meaning.proofs.SteadyOutcomes.{Upright, Further, Goes, further_itself, tags_further, with_more, Onward, So, onward_still, SteadyAt, Steady, bind_steady, then_steady, gives_steady, skip_steady, now_steady, fault_steady, limit_steady, wrong_steady, needs_steady, update_steady, choose_at, choose_steady, unless_steady, begin_steady}
+use Rattle.mp_meaning.proofs.SteadyOutcomes.{Upright, Further, Goes, further_itself, tags_further, with_more, Onward, So, onward_still, Steady, bind_steady, then_steady, gives_steady, skip_steady, now_steady, fault_steady, limit_steady, wrong_steady, needs_steady, update_steady, choose_at, choose_steady, unless_steady, begin_steady}
 use Rattle.mp_meaning.proofs.SteadyVariables.{not_zero, number_steady, pointer_steady, held_steady, set_at, set_steady, fits_then, assign_steady, object_steady, write_bytes_steady, write_line_steady, page_steady, put_steady, get_steady, read_line_steady, read_character_steady, read_integer_steady, reset_steady, rewrite_steady}
 use Rattle.mp_meaning.proofs.SteadyExpressions.{in_order_wider, output_ended, until_goes, until_more, SelfSteady, activation_steady, block_steady, variable_steady, routine_steady, left_steady, call_steady, eval_steady, actuals_steady, form_steady, eval_number_steady}
 
@@ -108,10 +108,12 @@ module _ {closed : Path → Bool} where
   jump_steady l number = record { by = λ c. record { onward = λ up. record { by = (up, further_itself c) }; so = λ more up. record { by = refl } } }
 
   jump_out_steady : (l number : ℕ) → Steady closed (jump_out l number)
-  jump_out_steady l number = record { by = λ c. record {
-    onward = λ up. record { by = until_goes number c.activations c refl up };
-    so = λ more up. record { by = ap (Jump l number) (until_more number c.activations more c) };
-  } }
+  jump_out_steady l number = record {
+    by = λ c. record {
+      onward = λ up. record { by = until_goes number c.activations c refl up };
+      so = λ more up. record { by = ap (Jump l number) (until_more number c.activations more c) };
+    };
+  }
 
   go_to_steady : (p : Program) (d l : ℕ) → Steady closed (go_to p d l)
   go_to_steady p d l = now_steady (λ more c. refl) (λ c. bind_steady (activation_steady d) (λ number.
@@ -199,10 +201,12 @@ module _ (p : Program) (self : Self) (good : SelfSteady p self) where
   caught_so opened number more whole c Wrong q g s = record { by = ap (caught self opened number whole) s.by }
 
   catch_steady : (opened : List Reference) (whole : PlainTypedStatements) (m : Command) → Steady p.is_closed m → Steady p.is_closed (catch self opened whole m)
-  catch_steady opened whole m f = record { by = λ c. record {
-    onward = λ up. caught_onward opened (newest c.activations) whole c (m c) ((f.by c).onward up);
-    so = λ more up. caught_so opened (newest c.activations) more whole c (m c) (m (with_more more c)) ((f.by c).onward up) ((f.by c).so more up);
-  } }
+  catch_steady opened whole m f = record {
+    by = λ c. record {
+      onward = λ up. caught_onward opened (newest c.activations) whole c (m c) ((f.by c).onward up);
+      so = λ more up. caught_so opened (newest c.activations) more whole c (m c) (m (with_more more c)) ((f.by c).onward up) ((f.by c).so more up);
+    };
+  }
 
   -- ---- loops
 

@@ -31,7 +31,6 @@ use Rattle.mp_meaning.specs.Outcomes.{Outcome, Done, Jump, Fault, Limit, Hole, P
 use Rattle.mp_meaning.specs.Variables.{as_number, with_number, as_members, as_pointer, as_reference, as_file, defined, must_live, held, read, part, as_live_routine, as_scalar, retag, with_changed, set, must_fit, assign, select, pass, pass_all, object_of, same_variant, first_constant, object_root}
 use Rattle.mp_meaning.specs.Operators.{integer, boolean, on_numbers, on_sets, operate, with_sign, compare, compare_strings, with_member, with_members, value_if, apply, is_true, holds, comes_before, compare_numbers, compare_sets, compare_pointers}
 use Rattle.mp_meaning.specs.FileCalls.{file_at, file_of, buffer_of, answer, ask, result, buffer_value, on_file, renew_buffer, charge, must_write, write_to, write_bytes, write_line, page, put, get, read_line, read_character, read_integer, begin_file, reset, rewrite, is_open}
-
 use Rattle.mp_meaning.specs.Names.{Path}
 use Rattle.mp_meaning.proofs.GrowthValues.{Grown, grown_itself, grown_plain, grown_changed, NoTags, tags_of_component, retagged_grown, FileGrows, get_grows, read_line_grows, read_number_grows, write_grows}
 use Rattle.mp_meaning.proofs.SteadyOutcomes.{Upright, Further, Goes, tags_further, SteadyAt, Steady, bind_at, then_at, bind_with, then_with, bind_steady, then_steady, gives_steady, skip_steady, now_steady, fault_steady, limit_steady, wrong_steady, needs_steady, update_at, update_steady, choose_at, choose_steady, unless_steady, tested_at}
@@ -215,7 +214,7 @@ module _ {closed : Path → Bool} where
       let p = and_parts (is_scalar v) (can_retag (number_in_whole r) slots cells whole) may in
       update_at (with_changed (whole_of r) (retagged (number_in_whole r) v slots)) d (λ more. refl) (λ up.
       changed_goes d (whole_of r) whole (retagged (number_in_whole r) v slots) there
-          (λ standard. retagged_grown (number_in_whole r) v slots cells whole (tags_of_component (d.roots r.root).value (whole_of r).way whole (subst (λ q. NoTags (d.roots q).value) (sym standard) up.tags) there) p.0 p.1) up)))
+      (λ standard. retagged_grown (number_in_whole r) v slots cells whole (tags_of_component (d.roots r.root).value (whole_of r).way whole (subst (λ q. NoTags (d.roots q).value) (sym standard) up.tags) there) p.0 p.1) up)))
 
   pub must_fit_steady : (at : ℕ) (fit : Check) (v : Value) → Steady closed (must_fit at fit v)
   must_fit_steady at (check.Range low high) v = bind_steady (number_steady v) (λ n. unless_steady _ (fault_steady at 3))

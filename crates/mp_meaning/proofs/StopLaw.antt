@@ -1,6 +1,5 @@
 -- A command stops at the first step at which it has to, and there is one such stop.
-use Rattle.std.proofs.Common.{◌≡◌, ℕ, zero, suc, ◌+◌, ◌<◌, ◌≤◌, List, Bool, true, false, refl, sym, ◌∙◌, subst, inl, inr, arith, nat_eq, nat_lt, eqb-true}
-use Rattle.std.specs.Prelude.{◌⊎◌}
+use Rattle.std.proofs.Common.{◌≡◌, ℕ, zero, suc, ◌+◌, ◌<◌, List, Bool, true, false, refl, sym, ◌∙◌, subst, inl, inr, arith, nat_eq, nat_lt, eqb-true}
 use Rattle.std.proofs.lemmas.Bool.{eqb-false, ltb-true, ltb-false}
 use Rattle.mp_base.specs.declared.place.Place.{Place}
 use Rattle.mp_meaning.specs.Programs.{Program}
