@@ -4,6 +4,7 @@ use Rattle.std.specs.Prelude.{if◌then◌else◌, ◌-◌, ◌&&◌, nat_eq, le
 use Rattle.mp_base.specs.declared.limits.TheConstants.{CELL_LIMIT, WIDTH_LIMIT}
 use Rattle.mp_tables.specs.declared.types.TypeId.{TypeId}
 use Rattle.mp_tables.specs.declared.types.TypeId.TheVariants as type
+use Rattle.mp_tables.specs.declared.types.ArrayShape.{ArrayShape}
 use Rattle.mp_tables.specs.declared.types.Shape.TheVariants as shape
 use Rattle.mp_tables.specs.declared.typed_expressions.Sort.TheVariants as sort
 use Rattle.mp_tables.specs.declared.typed_statements.Tagging.{Tagging}
@@ -31,7 +32,7 @@ use Rattle.mp_tables.specs.Sizes.{saturated}
 use Rattle.mp_meaning.specs.Outcomes.{wrong, ◌>>◌, update, limit, unless}
 use Rattle.mp_meaning.specs.Variables.{set}
 use Rattle.mp_meaning.specs.Calls.{Self}
-use Rattle.mp_meaning.specs.RequiredProcedures.{must_be_width, on_file_procedure, default_width, defined_string, field, take_value, with_object, make, disposed, dispose, pack, unpack, read_all, eval_width, write_one, write_all, required}
+use Rattle.mp_meaning.specs.RequiredProcedures.{must_be_width, on_file_procedure, default_width, defined_string, field, take_value, with_object, make, disposed, dispose, set_array, pack, unpack, read_all, eval_width, write_one, write_all, required}
 use Rattle.mp_meaning.proofs.SoundKinds.{kind_cells, Given, Kind, Of, class_of_shape, domain_of, World, Later, then_later, Spot, spot_later, PointsTo, IfPointers, HasKind, HasParts, fits_later, IsOne, Frame}
 use Rattle.mp_meaning.proofs.SoundFrames.{type_has}
 use Rattle.mp_meaning.proofs.SoundOutcomes.{limit_safe, unless_true, nat_eq_refl, Sane, activations_later, Reach, Within, Sound, Safe, Any, sound_earlier, bind_safe, then_safe, gives_safe, skip_safe, fault_safe, choose_safe, unless_fault, update_safe, ActivationsFit}
@@ -242,6 +243,12 @@ module _ (g : Given) (self : Self) (good : SelfSafe g self) (acts : List Activat
   write_all_safe file [] h s c = skip_safe tt
   write_all_safe file (x ∷ more) h s c = then_safe (write_one_safe file x h s c.0) (λ u l v any. write_all_safe file more (at_later l h) (spot_later l s) c.1)
 
+  -- no standard file is an array, so an array is set as any variable is
+  set_array_safe : {w : World} (r : Reference) (vs : Values) (t : TypeId) (a : ArrayShape) → shape_of g.tables t ≡ Some (shape.Arr a) → Spot g (Of (Some t)) w r → Safe g w acts (Within labels) Any (set at r (Structure vs)) → Safe g w acts (Within labels) Any (set_array at r vs)
+  set_array_safe r vs t a is spot safe = record {
+    by = λ c sane e. (choose_safe (nat_eq r.root 0) (λ standard. absurd (no_standard_array g t a is (at_standard r spot sane.files (eqb-true r.root 0 standard)))) (λ own. safe)).by c sane e;
+  }
+
   pack_safe : {w : World} (p : PlainPacking) (a z : Reference) (i : ℤ) (k : CheckedPacking (context g path ts labels) p) → Spot g (Of (Some k.unpacked)) w a → Spot g (Of (Some k.packed)) w z → Safe g w acts (Within labels) Any (pack at p a z i)
   pack_safe p a z i k sa sz =
       then_safe (unless_fault (int_le p.low i && int_le (i +ℤ pos p.count -ℤ pos 1) p.high) at 4) (λ b lb x so.
@@ -254,12 +261,12 @@ module _ (g : Given) (self : Self) (good : SelfSafe g self) (acts : List Activat
       let from : HasParts g d (array_kinds (n - first) k.component) (values_from first (values_in v)) =
       subst (λ v. HasParts g d (array_kinds (n - first) k.component) (values_from first (values_in v))) (sym s.is) (from_parts g d k.component first n (n - first) s.values (omega arith) s.parts) in
       let parts : HasParts g d (array_kinds p.count k.component) (first_values p.count (values_from first (values_in v))) = first_parts g d k.component p.count (n - first) (values_from first (values_in v)) (omega arith) from in
-      set_safe at z (Structure (first_values p.count (values_from first (values_in v)))) (spot_later (then_later lb ld) sz)
+      set_array_safe z (first_values p.count (values_from first (values_in v))) k.packed k.count.2.array k.count.2.shape (spot_later (then_later lb ld) sz) (set_safe at z (Structure (first_values p.count (values_from first (values_in v)))) (spot_later (then_later lb ld) sz)
       (record {
         by = array_has g d path ts labels k.packed low high p.size k.component (first_values p.count (values_from first (values_in v))) k.count.2
             (subst (λ m. HasParts g d (array_kinds m k.component) (first_values p.count (values_from first (values_in v)))) (ap natural k.count.3) parts);
       })
-      (λ u l files first. let shape = k.count.2 in absurd (no_standard_array g k.packed shape.array shape.shape (at_standard z (spot_later (then_later (then_later lb ld) l) sz) files first)))))
+      (λ u l files first. let shape = k.count.2 in absurd (no_standard_array g k.packed shape.array shape.shape (at_standard z (spot_later (then_later (then_later lb ld) l) sz) files first))))))
 
   unpack_safe : {w : World} (p : PlainPacking) (a z : Reference) (i : ℤ) (k : CheckedPacking (context g path ts labels) p) → Spot g (Of (Some k.unpacked)) w a → Spot g (Of (Some k.packed)) w z → Safe g w acts (Within labels) Any (unpack at p a z i)
   unpack_safe p a z i k sa sz =
@@ -273,13 +280,13 @@ module _ (g : Given) (self : Self) (good : SelfSafe g self) (acts : List Activat
       let later = fits_later lq fits in
       let new = array_values g q path ts labels k.packed low high p.size k.component v k.count.2 later.by in
       let before = array_values g q path ts labels k.unpacked p.low p.high p.size k.component old k.first held.by in
-      set_safe at a (Structure (laid_over first (values_in v) (values_in old))) (spot_later (then_later (then_later lb ld) lq) sa) (record {
+      set_array_safe a (laid_over first (values_in v) (values_in old)) k.unpacked k.first.array k.first.shape (spot_later (then_later (then_later lb ld) lq) sa) (set_safe at a (Structure (laid_over first (values_in v) (values_in old))) (spot_later (then_later (then_later lb ld) lq) sa) (record {
         by = array_has g q path ts labels k.unpacked p.low p.high p.size k.component (laid_over first (values_in v) (values_in old)) k.first
             (subst (λ v. HasParts g q (array_kinds n k.component) (laid_over first (values_in v) (values_in old))) (sym new.is)
             (subst (λ old. HasParts g q (array_kinds n k.component) (laid_over first new.values (values_in old))) (sym before.is)
             (over_parts g q k.component first m n new.values before.values new.parts before.parts)));
       })
-      (λ u l files first. absurd (no_standard_array g k.unpacked k.first.array k.first.shape (at_standard a (spot_later (then_later (then_later (then_later lb ld) lq) l) sa) files first))))))
+      (λ u l files first. absurd (no_standard_array g k.unpacked k.first.array k.first.shape (at_standard a (spot_later (then_later (then_later (then_later lb ld) lq) l) sa) files first)))))))
 
   pub required_safe : {w : World} (call : PlainRequiredCall) → At g w acts path ts opened → CheckedRequired (context g path ts labels) call → Safe g w acts (Within labels) Any (required g.program self opened at call)
   required_safe (tree.File f access) h c =
