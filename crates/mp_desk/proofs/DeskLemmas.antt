@@ -4,7 +4,7 @@ use Rattle.mp_ast.specs.declared.errors.LexError.{LexError}
 use Rattle.mp_ast.specs.declared.tokens.Token.{Token}
 use Rattle.mp_base.specs.declared.limits.TheConstants.{TEXT_LIMIT}
 use Rattle.mp_base.specs.Text.{bytes_of}
-use Rattle.mp_relex_tests.specs.Desk.{AreLexed, edit_change, last_text}
+use Rattle.mp_desk.specs.Desk.{AreLexed, IsChangeOfEdit, IsChangeOfWhole, edit_change, last_text}
 use Rattle.mp_lex.specs.Lexed.{lexical_errors, lexical_tokens}
 use Rattle.mp_lex.specs.Relexing.{Changes, IsChanged}
 use Rattle.mp_lex.proofs.ChangeLemmas.{are_changes}
@@ -19,11 +19,14 @@ pub few_added : (e : Edit) (text : List (List ℕ)) → IsInRange e text → len
     length (change_bytes e) ≤ TEXT_LIMIT + TEXT_LIMIT
 few_added e text h small made = let within = (byte_change e text h).within in omega (arith, size_edited e text h)
 
-pub edit_changes : (e : Edit) (text : List (List ℕ)) → IsInRange e text → Changes (edit_change e text) (bytes_of text) (bytes_of (edited e text))
+pub edit_changes : (e : Edit) (text : List (List ℕ)) → IsChangeOfEdit e text
 edit_changes e text h =
     let is = byte_change e text h in
     subst (λ t. Changes (edit_change e text) (bytes_of text) t) (sym is.bytes)
     ((are_changes (change_start e text) (change_removed e text) (change_bytes e) (bytes_of text) (bytes_of text)).splice is.within)
+
+pub whole_changes : (before after : List (List ℕ)) → IsChangeOfWhole before after
+whole_changes before after = (are_changes 0 0 [] (bytes_of before) (bytes_of after)).whole
 
 -- the same change, in the numbers that were computed
 pub is_changed : (start removed added s r a : ℕ) (before after : List (List ℕ)) (tokens : List Token) (errors : List LexError) (bytes : List ℕ) → start ≡ s →

@@ -1,6 +1,6 @@
 use Rattle.std.proofs.Common.{[], refl}
-use Rattle.mp_relex_tests.proofs.DeskLemmas.{lexed_first}
-use Rattle.mp_relex_tests.proofs.desk.Desk.new.Goals as goal
+use Rattle.mp_desk.proofs.DeskLemmas.{lexed_first}
+use Rattle.mp_desk.proofs.desk.Desk.new.Goals as goal
 
 pub invariant_of-result : goal.invariant_of-result
 invariant_of-result c =

@@ -1,13 +1,13 @@
 use Rattle.std.proofs.Common.{◌≡◌, ◌≤◌, length, ap, sym, subst, ◌∙◌, arith}
 use Rattle.mp_base.specs.declared.limits.TheConstants.{TEXT_LIMIT}
 use Rattle.mp_base.specs.Text.{bytes_of}
-use Rattle.mp_relex_tests.specs.Desk.{AreLexed, last_text}
+use Rattle.mp_desk.specs.Desk.{AreLexed, last_text}
 use Rattle.mp_text.specs.Changes.{change_bytes, change_removed, change_start}
 use Rattle.mp_text.specs.Edits.{edited}
 use Rattle.mp_text.specs.Versions.{version_at}
 use Rattle.mp_text.proofs.VersionLemmas.{version_is_text}
-use Rattle.mp_relex_tests.proofs.DeskLemmas.{edit_changes, few_added, is_changed}
-use Rattle.mp_relex_tests.proofs.desk.Desk.edit.Goals as goal
+use Rattle.mp_desk.proofs.DeskLemmas.{edit_changes, few_added, is_changed}
+use Rattle.mp_desk.proofs.desk.Desk.edit.Goals as goal
 
 pub added-requires : goal.added-requires
 added-requires g c =

@@ -1,20 +1,21 @@
-ghost use Rattle.std.specs.Prelude.{◌≡◌, ◌≢◌, ◌+◌, ◌<◌, ◌≤◌, ◌^◌, ◌++◌, ◌∷◌, [], IfErr, IfOk, MatchResult, OnErr, OnOk, None, length};
+ghost use Rattle.std.specs.Prelude.{◌≡◌, ◌≢◌, ◌+◌, ◌<◌, ◌≤◌, ◌^◌, ◌++◌, ◌∷◌, [], IfErr, IfOk, IsTrue, OnErr, OnOk, None, length};
 ghost use Rattle.mp_base.specs.Text.{bytes_of};
-ghost use Rattle.mp_relex_tests.specs.Desk.{AreLexed, edit_change, last_text, most_read, whole_change};
-ghost use Rattle.mp_lex.specs.Lexed.{lexical_errors, lexical_tokens};
+ghost use Rattle.mp_desk.specs.Desk.{AreLexed, edit_change, last_text, most_read, whole_change};
+ghost use Rattle.mp_lex.specs.Order.{AreErrorsInOrder, AreTokensInOrder};
 ghost use Rattle.mp_text.specs.Edits.{edited, new_lines};
-ghost use Rattle.mp_text.specs.Refusals.{IsDue, back_refusal, refusal};
-ghost use Rattle.mp_text.specs.Versions.{version_at};
+ghost use Rattle.mp_text.specs.Refusals.{IsDue, back_refusal, no_version, refusal};
+ghost use Rattle.mp_text.specs.Versions.{IsText, stands, version_at};
 
-use mp_base::{Memory, Steps, Version};
+use mp_base::{Bytes, Memory, Steps, Version};
 use mp_lex::{Change, Lexed, lex, relex};
 use mp_text::{Edit, TextError, Texts};
 use std::alloc::Global;
 use std::marker::Model;
 
-/// The versions of a text, with the tokens and lexical errors of the last one, which come from `relex`.
+/// The versions of a text, with the tokens and lexical errors of the last one. Those of a new version come from those of
+/// the one before; those of an older one are not kept.
 #[derive(Drop)]
-pub(crate) struct Desk {
+pub struct Desk {
     alloc: Global,
     texts: Texts,
     lexed: Lexed,
@@ -22,7 +23,7 @@ pub(crate) struct Desk {
 
 impl Model for Desk {
     ghost use Rattle.std.specs.Prelude.{List, ℕ};
-    ghost use Rattle.mp_relex_tests.specs.Desk.{AreLexed, last_text};
+    ghost use Rattle.mp_desk.specs.Desk.{AreLexed, last_text};
 
     ghost Value = { List (List (List ℕ)) };
 
@@ -33,7 +34,7 @@ impl Model for Desk {
 
 impl Desk {
     /// Version 1, which is empty.
-    pub(crate) fn new(alloc: Global) -> Result<Desk, Memory>
+    pub fn new(alloc: Global) -> Result<Desk, Memory>
         ensures { IfOk result (λ desk. desk ≡ [] ∷ []) }
     {
         let texts = Texts::new(alloc)?;
@@ -46,22 +47,53 @@ impl Desk {
     }
 
     /// The versions.
-    pub(crate) fn texts(&self) -> &Texts
+    pub fn texts(&self) -> &Texts
         ensures { result.now ≡ self.now }
     {
         &self.texts
     }
 
+    /// The bytes of a version, each line with its line end. It is refused exactly where there is no such version.
+    pub fn bytes(&self, v: Version) -> Result<Bytes, TextError>
+        ensures stands { OnOk result (IsTrue (stands self.now v.0)) }
+        ensures bytes { IfOk result (λ bytes. bytes ≡ bytes_of (version_at self.now v.0)) }
+        ensures text { OnOk result (IsText (version_at self.now v.0)) }
+        ensures err { IfErr result (λ e. IsDue e (no_version self.now v.0)) }
+    {
+        self.texts.bytes(v)
+    }
+
     /// The tokens and lexical errors of the last version.
-    pub(crate) fn lexed(&self) -> &Lexed
-        ensures { AreLexed (last_text self.now) result.now.tokens result.now.errors }
+    pub fn lexed(&self) -> &Lexed
+        ensures lexed { AreLexed (last_text self.now) result.now.tokens result.now.errors }
+        ensures tokens_in_order { AreTokensInOrder (bytes_of (last_text self.now)) result.now.tokens }
+        ensures errors_in_order { AreErrorsInOrder (bytes_of (last_text self.now)) result.now.errors }
     {
         &self.lexed
     }
 
+    /// The tokens and lexical errors of a version, found anew in its bytes. It is refused exactly where there is no such
+    /// version.
+    pub fn lexed_of(&self, v: Version) -> Result<Lexed, TextError>
+        ensures stands { OnOk result (IsTrue (stands self.now v.0)) }
+        ensures lexed { IfOk result (λ lexed. AreLexed (version_at self.now v.0) lexed.tokens lexed.errors) }
+        ensures tokens_in_order { IfOk result (λ lexed. AreTokensInOrder (bytes_of (version_at self.now v.0)) lexed.tokens) }
+        ensures errors_in_order { IfOk result (λ lexed. AreErrorsInOrder (bytes_of (version_at self.now v.0)) lexed.errors) }
+        ensures err { IfErr result (λ e. IsDue e (no_version self.now v.0)) }
+    {
+        let bytes = match self.texts.bytes(v) {
+            Ok(bytes) => bytes,
+            Err(error) => return Err(error),
+        };
+        match lex(self.alloc, bytes.get()) {
+            Ok(lexed) => Ok(lexed),
+            Err(_) => Err(TextError::Memory),
+        }
+    }
+
     /// Makes a new version by an edit of the last one, and gives its number. Of its bytes only those round the change
     /// are read. Where it is refused, no byte is read and nothing changes; where it finds no memory, nothing changes.
-    pub(crate) fn edit<L>(&mut self, edit: Edit, steps: &mut Steps<L>) -> Result<Version, TextError>
+    pub fn edit<L>(&mut self, edit: Edit, steps: &mut Steps<L>) -> Result<Version, TextError>
         requires { length (new_lines edit) < 2 ^ 31 }
         ensures ok { OnOk result (refusal self.old (length self.old) edit ≡ None) }
         ensures text { OnOk result (self.new ≡ self.old ++ edited edit (last_text self.old) ∷ []) }
@@ -96,7 +128,7 @@ impl Desk {
 
     /// Makes a new version with the text of one that stands, and gives its number. Its bytes are read, each once. Where
     /// it is refused, no byte is read and nothing changes; where it finds no memory, nothing changes.
-    pub(crate) fn back<L>(&mut self, v: Version, steps: &mut Steps<L>) -> Result<Version, TextError>
+    pub fn back<L>(&mut self, v: Version, steps: &mut Steps<L>) -> Result<Version, TextError>
         ensures ok { OnOk result (back_refusal self.old v.0 ≡ None) }
         ensures text { OnOk result (self.new ≡ self.old ++ version_at self.old v.0 ∷ []) }
         ensures number { IfOk result (λ made. made.0 ≡ length self.new) }
@@ -116,7 +148,7 @@ impl Desk {
             removed: self.texts.len(current),
             added: self.texts.len(v),
         };
-        let lexed = match relex(self.alloc, &self.lexed, &reader, change, steps) {
+        let anew = match relex(self.alloc, &self.lexed, &reader, change, steps) {
             Ok(lexed) => lexed,
             Err(_) => return Err(TextError::Memory),
         };
@@ -124,7 +156,7 @@ impl Desk {
             Ok(number) => number,
             Err(error) => return Err(error),
         };
-        self.lexed = lexed;
+        self.lexed = anew;
         Ok(number)
     }
 }
