@@ -1,5 +1,5 @@
 -- Runs of statements with two causes of an ending: the first in the order of evaluation counts. And the places of faults.
-use Rattle.std.specs.Prelude.{◌≡◌, ℕ, Bool, true, false, List, [], ◌∷◌, Some, None, codes, pos, replicate, nat_eq}
+use Rattle.std.specs.Prelude.{◌≡◌, ℕ, Bool, true, false, List, [], ◌∷◌, Option, Some, None, codes, pos, replicate, nat_eq}
 use Rattle.mp_ast.specs.declared.statements.Direction.TheVariants as direction
 use Rattle.mp_tables.specs.declared.types.TypeId.{TypeId}
 use Rattle.mp_tables.specs.declared.types.TypeId.TheVariants as type
@@ -15,13 +15,17 @@ use Rattle.mp_tables.specs.declared.typed_statements.ReadSort.TheVariants as rea
 use Rattle.mp_tables.specs.declared.typed_statements.WriteSort.TheVariants as writes
 use Rattle.mp_tables.specs.PlainTypedExpressions.{PlainTypedAccess, PlainTypedExpr, PlainTypedMembers}
 use Rattle.mp_tables.specs.PlainTypedExpressions as expr
-use Rattle.mp_tables.specs.PlainTypedStatements.{PlainTypedBlock, PlainTypedStatement, PlainTypedStatements, PlainWriting}
+use Rattle.mp_tables.specs.PlainTypedStatements.{PlainTypedBlock, PlainTypedStatement, PlainTypedStatements, PlainWriting, PlainPacking}
 use Rattle.mp_tables.specs.PlainTypedStatements as tree
 use Rattle.mp_meaning.specs.Names.{Path, same_path}
 use Rattle.mp_meaning.specs.Numbers.{least_integer, maxint}
 use Rattle.mp_meaning.specs.Forms.{Form, OneCell, FileForm, ArrayForm, RecordForm, Beside, NoForms}
 use Rattle.mp_meaning.specs.Programs.{Program}
 use Rattle.mp_meaning.specs.Configurations.{Configuration}
+use Rattle.mp_meaning.specs.Values.{Reference, Undefined, cleared}
+use Rattle.mp_meaning.specs.Outcomes.{Outcome, Fault}
+use Rattle.mp_meaning.specs.FileCalls.{write_bytes}
+use Rattle.mp_meaning.specs.RequiredProcedures.{make, pack, unpack}
 use Rattle.mp_meaning.specs.Calls.{must_have_room}
 use Rattle.mp_meaning.specs.Steps.{at_step, before_program, Standing, Ends, MetHole}
 use Rattle.mp_meaning.specs.LimitExamples.{limit_of, someone}
@@ -77,19 +81,28 @@ MembersExample =
     (in_set (expr.Member no_quotient (expr.Member (number 300) expr.NoMembers)) ≡ faulted 2 41 2 []) ×
     (set_to (expr.In (number 300) (expr.Set (expr.MemberRange (number 300) (number 1) expr.NoMembers))) ≡ ended 2 [])
 
--- for i := 1 div 0 to i: the first value comes first
+-- for i := first to last do;
+abbrev for_loop : (at : ℕ) → (first last : PlainTypedExpr) → PlainTypedStatement
+for_loop at first last = tree.For at (record {
+  variable = located (codes "i") 0 0;
+  low = least_integer;
+  high = maxint;
+  first = first;
+  direction = direction.To;
+  last = last;
+}) (tree.Empty 50)
+
+-- for i := 1 div 0 to i: the first value comes first; i := 3; for i := 1 to i do makes three turns, since both values are
+-- evaluated before the variable is set
 abbrev pub ForFirstExample : Type 0
 ForFirstExample =
-    of_one (tree.For 41 (record { variable = located (codes "i") 0 0; low = least_integer; high = maxint; first = no_quotient; direction = direction.To; last = load i }) (tree.Empty 50)) ≡
-    faulted 2 41 2 []
+    (of_one (for_loop 41 no_quotient (load i)) ≡ faulted 2 41 2 []) ×
+    (run_of [] (assign 41 i (number 3) then last (for_loop 45 (number 1) (load i))) ≡ ended 6 [])
 
 -- for i := 1 to 2 do; i := i: the control variable is undefined after the last turn
 abbrev pub AfterForExample : Type 0
 AfterForExample =
-    run_of [] (
-    tree.For 41 (record { variable = located (codes "i") 0 0; low = least_integer; high = maxint; first = number 1; direction = direction.To; last = number 2 }) (tree.Empty 48) then
-    last (assign 49 i (load i))) ≡
-    faulted 9 49 5 []
+    run_of [] (for_loop 41 (number 1) (number 2) then last (assign 51 i (load i))) ≡ faulted 9 51 5 []
 
 -- i := 1; while 1 div i > 0 do i := i - 1: the test of the second turn stands at the loop
 abbrev pub LaterTestExample : Type 0
@@ -208,3 +221,42 @@ with_live n = record (before_program [] 9) { activations = replicate n someone }
 -- where both limits are passed, limit 1 comes first
 abbrev pub LimitOrderExample : Type 0
 LimitOrderExample = (limit_of (must_have_room 0 1000000 (with_live 4096)) ≡ Some 1) × (limit_of (must_have_room 0 1000000 (with_live 4095)) ≡ Some 2)
+
+-- ---- single actions, where a run would be long
+
+abbrev start : Configuration
+start = before_program [] 9
+
+abbrev fault_of : Outcome (Unit {0}) → Option ℕ
+fault_of (Fault number at c) = Some number
+fault_of _ = None
+
+-- a variable of an activation that is not there, and one of the standard files, or in it
+abbrev gone : Reference
+gone = record { root = 1; way = []; type = Undefined }
+
+abbrev standard : (way : List ℕ) → Reference
+standard way = record { root = 0; way = way; type = cleared (start.roots 0).value }
+
+-- `new` reads its variable before it counts the cells
+abbrev pub NewOrderExample : Type 0
+NewOrderExample =
+    (fault_of (make 0 OneCell 1000001 gone start) ≡ Some 8) ×
+    (limit_of (make 0 OneCell 1000001 (standard (1 ∷ 1 ∷ [])) start) ≡ Some 2)
+
+-- a byte too many for a file that is not in writing is fault 12, and for `output` limit 4
+abbrev pub ChargeOrderExample : Type 0
+ChargeOrderExample =
+    (fault_of (write_bytes 0 (standard (0 ∷ [])) (120 ∷ []) (record start { written = 16777216 })) ≡ Some 12) ×
+    (limit_of (write_bytes 0 (standard (1 ∷ [])) (120 ∷ []) (record start { written = 16777216 })) ≡ Some 4)
+
+abbrev packing : PlainPacking
+packing = record { unpacked = i; index = number 1; packed = i; low = pos 1; high = pos 3; count = 2; size = 1 }
+
+-- the index is tested before the arrays are read
+abbrev pub PackOrderExample : Type 0
+PackOrderExample =
+    (fault_of (pack 0 packing gone gone (pos 3) start) ≡ Some 4) ×
+    (fault_of (pack 0 packing gone gone (pos 2) start) ≡ Some 8) ×
+    (fault_of (unpack 0 packing gone gone (pos 3) start) ≡ Some 4) ×
+    (fault_of (unpack 0 packing gone gone (pos 2) start) ≡ Some 8)
