@@ -69,7 +69,8 @@ abbrev pub OperandsExample : Type 0
 OperandsExample =
     (set_to (two (load i) operator.Add no_quotient) ≡ faulted 9 41 2 []) ×
     (set_to (two no_quotient operator.Add (load i)) ≡ faulted 2 41 2 []) ×
-    (set_to (two (compare (number 1) relation.Greater (number 2)) operator.And (compare no_quotient relation.Equal (number 1))) ≡ faulted 2 41 2 [])
+    (set_to (two (compare (number 1) relation.Greater (number 2)) operator.And
+    (compare no_quotient relation.Equal (number 1))) ≡ faulted 2 41 2 [])
 
 abbrev in_set : PlainTypedMembers → Standing
 in_set members = set_to (expr.In (number 1) (expr.Set members))
@@ -109,13 +110,16 @@ abbrev pub LaterTestExample : Type 0
 LaterTestExample =
     run_of [] (
     assign 41 i (number 1) then
-    last (tree.While 45 (compare (two (number 1) operator.Div (load i)) relation.Greater (number 0)) (assign 53 i (two (load i) operator.Subtract (number 1))))) ≡
+    last (tree.While 45 (compare (two (number 1) operator.Div (load i)) relation.Greater (number 0))
+    (assign 53 i (two (load i) operator.Subtract (number 1))))) ≡
     faulted 2 45 4 []
 
 -- ---- read and write
 
 abbrev read_into : PlainTypedAccess → PlainTypedAccess → Check → PlainTypedStatement
-read_into from a test = tree.Required 41 (tree.Read false from (record { of = reads.Integer; target = record { access = a; check = test; tagging = None } } ∷ []))
+read_into from a test =
+    tree.Required 41 (tree.Read false from (record
+    { of = reads.Integer; target = record { access = a; check = test; tagging = None } } ∷ []))
 
 -- read(f, a[4]) is fault 4 before 12; of input, x is no number, 9999999999 too large, and 9 no value of 1..3
 abbrev pub ReadOrderExample : Type 0
@@ -129,7 +133,13 @@ abbrev write_to : PlainWriting → Standing
 write_to w = of_one (tree.Required 41 (tree.Write false f (w ∷ [])))
 
 abbrev z_of_width : ℕ → PlainWriting
-z_of_width n = record { of = writes.Text 2; value = expr.Load (sort.Block 2) (root.Own (located (codes "z") 0 6)) expr.NoSelectors; width = Some (number n) }
+z_of_width n =
+    record {
+      of = writes.Text 2;
+      value = expr.Load (sort.Block 2) (root.Own (located (codes "z") 0 6)) expr.NoSelectors;
+      width =
+          Some (number n);
+    }
 
 -- f is closed: the value comes before the width, this before an undefined character, this before a width that is too small,
 -- and all before the state of the file
@@ -144,8 +154,10 @@ WriteOrderExample =
 -- rewrite(f); put(f): the buffer is undefined; get(f) and eoln(f) of a file in writing are of the wrong state
 abbrev pub PutOrderExample : Type 0
 PutOrderExample =
-    (run_of [] (tree.Required 41 (tree.File procedure.Rewrite f) then last (tree.Required 46 (tree.File procedure.Put f))) ≡ faulted 9 46 3 []) ×
-    (run_of [] (tree.Required 41 (tree.File procedure.Rewrite f) then last (tree.Required 46 (tree.File procedure.Get f))) ≡ faulted 12 46 3 [])
+    (run_of [] (tree.Required 41 (tree.File procedure.Rewrite f) then last
+    (tree.Required 46 (tree.File procedure.Put f))) ≡ faulted 9 46 3 []) ×
+    (run_of [] (tree.Required 41 (tree.File procedure.Rewrite f) then last
+    (tree.Required 46 (tree.File procedure.Get f))) ≡ faulted 12 46 3 [])
 
 -- ---- program p; var q: ^r; begin new(q); with q^ do begin dispose(q); .. end end, where r is record s: 1..3 end
 
@@ -160,7 +172,11 @@ abbrev q_value : PlainTypedExpr
 q_value = expr.Load sort.Pointer q.root q.selectors
 
 abbrev in_record : PlainTypedAccess
-in_record = record { root = root.Opened 0; selectors = expr.Field (record { name = codes "s"; slot = 0; offset = 0; guards = [] }) expr.NoSelectors }
+in_record = record {
+  root = root.Opened 0;
+  selectors = expr.Field
+      (record { name = codes "s"; slot = 0; offset = 0; guards = [] }) expr.NoSelectors;
+}
 
 abbrev dispose_q : ℕ → PlainTypedStatement
 dispose_q at = tree.Required at (tree.Dispose q_value)
@@ -198,7 +214,8 @@ large = inside [] (codes "q")
 abbrev calls_large : (closed : Bool) → (n : ℕ) → Program
 calls_large closed n = record (of_blocks (
     block [] [] 20 (last (call 21 large (expr.Value (number n) (check.Range (pos 1) (pos 3)) expr.NoActuals))) ∷
-    block large (value_parameter (codes "n") ∷ record (slot (codes "a") kind.Variable (type.Own large 1)) { cells = 1000000 } ∷ []) 0 (last (tree.Empty 1)) ∷ [])) {
+    block large (value_parameter (codes "n") ∷ record (slot (codes "a") kind.Variable (type.Own large 1)) { cells = 1000000 } ∷
+    []) 0 (last (tree.Empty 1)) ∷ [])) {
       is_closed = λ path. elim closed as (λ c. Bool) [ true ↦ same_path large path | false ↦ false ];
       form = λ id. elim id as (λ t. Form) [
         | type.Integer ↦ OneCell
@@ -220,7 +237,8 @@ with_live n = record (before_program [] 9) { activations = replicate n someone }
 
 -- where both limits are passed, limit 1 comes first
 abbrev pub LimitOrderExample : Type 0
-LimitOrderExample = (limit_of (must_have_room 0 1000000 (with_live 4096)) ≡ Some 1) × (limit_of (must_have_room 0 1000000 (with_live 4095)) ≡ Some 2)
+LimitOrderExample = (limit_of (must_have_room 0 1000000 (with_live 4096)) ≡ Some 1) ×
+    (limit_of (must_have_room 0 1000000 (with_live 4095)) ≡ Some 2)
 
 -- ---- single actions, where a run would be long
 

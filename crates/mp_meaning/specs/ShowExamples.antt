@@ -32,18 +32,43 @@ abbrev one_to_two : Option Bounds
 one_to_two = Some (record { host = type.Integer; low = pos 1; high = pos 2 })
 
 abbrev row_shape : Shape
-row_shape = shape.Arr (record { packed = false; index = one_to_two; component = Some type.Integer; size = 1; cells = 2; file = false })
+row_shape = shape.Arr (record {
+  packed = false;
+  index = one_to_two;
+  component = Some type.Integer;
+  size = 1;
+  cells = 2;
+  file =
+      false;
+})
 
 abbrev string_shape : Shape
-string_shape = shape.Arr (record { packed = true; index = one_to_two; component = Some type.Char; size = 1; cells = 2; file = false })
+string_shape =
+    shape.Arr (record { packed = true; index = one_to_two; component = Some type.Char; size = 1; cells = 2; file = false })
 
 abbrev record_shape : Shape
 record_shape = shape.Rec (record {
   packed = false;
   slots =
       record { name = Some (codes "t"); of = Some type.Boolean; offset = 0; cells = 1; within = None; tags = Some 0 } ∷
-      record { name = Some (codes "i"); of = Some type.Integer; offset = 1; cells = 1; within = Some (record { part = 0; variant = 0 }); tags = None } ∷
-      record { name = Some (codes "c"); of = Some type.Char; offset = 2; cells = 1; within = Some (record { part = 0; variant = 1 }); tags = None } ∷ [];
+      record {
+        name = Some (codes "i");
+        of = Some type.Integer;
+        offset = 1;
+        cells = 1;
+        within =
+            Some (record { part = 0; variant = 0 });
+        tags = None;
+      } ∷
+      record {
+        name = Some (codes "c");
+        of = Some type.Char;
+        offset = 2;
+        cells = 1;
+        within =
+            Some (record { part = 0; variant = 1 });
+        tags = None;
+      } ∷ [];
   parts = record {
     within = None;
     tag = 0;
@@ -95,7 +120,8 @@ names name = found_name (
 abbrev program : Program
 program = of_blocks (block [] (
     variable (codes "a") ∷ variable (codes "v") ∷ variable (codes "s") ∷ variable (codes "u") ∷
-    variable (codes "d") ∷ variable (codes "q") ∷ variable (codes "m") ∷ variable (codes "c") ∷ []) 90 (last (tree.Empty 91)) ∷ [])
+    variable (codes "d") ∷ variable (codes "q") ∷ variable (codes "m") ∷ variable (codes "c") ∷ []) 90 (last (tree.Empty 91)) ∷
+    [])
 
 -- a[1] is 7, v.t is false and v.i 5, s is 'it' and u chr(7) and x, d is tue, q is nil, m is [mon, tue], and c a quote
 abbrev held : Value
@@ -136,7 +162,8 @@ ShownTextsExample =
     (show (codes "m") [] ≡ Found (codes "[mon, tue]")) ×
     (show (codes "c") [] ≡ Found (codes "''''"))
 
--- 1: not seen, also in an index; 2: no variable, and no constant; 3: a selector or an index of another type; 4: an index outside;
+-- 1: not seen, also in an index; 2: no variable, and no constant; 3: a selector or an index of another type; 4: an index
+-- outside;
 -- 5: nil; 6: a field that is not active; and of two the first from the left
 abbrev pub ShownCodesExample : Type 0
 ShownCodesExample =
