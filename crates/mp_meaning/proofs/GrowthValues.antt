@@ -162,7 +162,8 @@ pub grown_changed : (v : Value) (way : List ℕ) (x : Value) (change : Value →
 grown_changed v [] x change e g = let same : x ≡ v = cc in subst (λ y. Grown y (change y)) same g
 grown_changed v (i ∷ way) x change e g = by (λ whole. grown_changed v way whole (changed_in i change)) (component v way) refl e
   where
-    by : ((whole : Value) → component v way ≡ Some whole → Grown whole (changed_in i change whole) → Grown v (changed v way (changed_in i change))) → (o : Option Value) → component v way ≡ o → part_in o i ≡ Some x → Grown v (changed v way (changed_in i change))
+    by : ((whole : Value) → component v way ≡ Some whole → Grown whole (changed_in i change whole) → Grown v (changed v way (changed_in i change))) → (o : Option Value) →
+        component v way ≡ o → part_in o i ≡ Some x → Grown v (changed v way (changed_in i change))
     by within None h e = absurd (let f : ⊥ = cc in f)
     by within (Some whole) h e = within whole h (grown_part whole i x change e g)
 
@@ -258,7 +259,8 @@ tags_of_component v (i ∷ way) x n e = by (λ whole. tags_of_component v way wh
     by within None h e = absurd (let f : ⊥ = cc in f)
     by within (Some whole) h e = tags_in whole i x (within whole h) e
 
-retagged_grown_at : (i : ℕ) (new : Value) (slots cells : ℕ) (vs : Values) → NoTagsIn vs → is_scalar new ≡ true → can_retag_at i slots cells vs ≡ true → AllGrown vs (retagged_at i new slots vs)
+retagged_grown_at : (i : ℕ) (new : Value) (slots cells : ℕ) (vs : Values) → NoTagsIn vs → is_scalar new ≡ true → can_retag_at i slots cells vs ≡ true →
+    AllGrown vs (retagged_at i new slots vs)
 retagged_grown_at i new slots cells NoValues n s e = tt
 retagged_grown_at (suc i) new slots cells (Then v more) n s e = (grown_itself v, retagged_grown_at i new slots cells more n.2 s e)
 retagged_grown_at zero new slots cells (Then v more) n s e =
@@ -430,5 +432,6 @@ bytes_append (x ∷ xs) ys = ap (λ l. byte_of x ∷ l) (bytes_append xs ys)
 
 pub output_grown : (c d : Configuration) → Grown (c.roots 0).value (d.roots 0).value → (more : List ℕ) × (output_of d ≡ output_of c ++ more)
 output_grown c d g =
-    let files = file_grown (component (c.roots 0).value (0 ∷ 1 ∷ [])) (component (d.roots 0).value (0 ∷ 1 ∷ [])) (component_grown (c.roots 0).value (d.roots 0).value (0 ∷ 1 ∷ []) g) in
+    let files = file_grown (component (c.roots 0).value (0 ∷ 1 ∷ [])) (component (d.roots 0).value (0 ∷ 1 ∷ []))
+    (component_grown (c.roots 0).value (d.roots 0).value (0 ∷ 1 ∷ []) g) in
     (bytes_of files.0, ap bytes_of files.1 ∙ bytes_append (file_in (component (c.roots 0).value (0 ∷ 1 ∷ []))).before files.0)

@@ -59,7 +59,8 @@ module _ {closed : Path → Bool} where
   load_steady at sort.Ordinal r = bind_steady (read_steady at r) (λ v. scalar_steady v)
   load_steady at sort.Set r = bind_steady (read_steady at r) (λ v. scalar_steady v)
   load_steady at sort.Pointer r = bind_steady (read_steady at r) (λ v. scalar_steady v)
-  load_steady at (sort.Block cells) r = bind_steady (held_steady at r) (λ v. then_steady (unless_steady (is_structure v && is_plain v && nat_eq (cells_in v) cells) wrong_steady) (gives_steady v))
+  load_steady at (sort.Block cells) r =
+      bind_steady (held_steady at r) (λ v. then_steady (unless_steady (is_structure v && is_plain v && nat_eq (cells_in v) cells) wrong_steady) (gives_steady v))
   load_steady at sort.File r = wrong_steady
 
   pub root_steady : (p : Program) (opened : List Reference) (at : ℕ) (r : Root) → Steady closed (root_of p opened at r)
@@ -95,8 +96,16 @@ ended_goes [] c e up = goes_itself c up
 ended_goes (a ∷ older) c e up =
     let order : AreInOrder c.next (a ∷ older) = subst (AreInOrder c.next) e up.in_order in
     let further : Further c (ended_in (a ∷ older) c) = record { next = omega arith; output = output_ended c.roots a.number } in
-    let less = order.0 in
-    (record { in_order = in_order_wider a.number c.next older (omega (arith, less)) order.2; some = up.some; left = up.left; tags = tags_further c (ended_in (a ∷ older) c) further up.tags }, further)
+    let less = order.0 in (
+      record {
+        in_order = in_order_wider a.number c.next older (omega (arith, less)) order.2;
+        some = up.some;
+        left = up.left;
+        tags =
+            tags_further c (ended_in (a ∷ older) c) further up.tags;
+      },
+      further,
+    )
 
 ended_more : (acts : List Activation) (more : ℕ) (c : Configuration) → ended_in acts (with_more more c) ≡ with_more more (ended_in acts c)
 ended_more [] more c = refl
@@ -106,7 +115,8 @@ pub until_goes : (r : ℕ) (acts : List Activation) (c : Configuration) → c.ac
 until_goes r [] c e up = goes_itself c up
 until_goes r (a ∷ older) c e up = by (nat_eq a.number r) (λ up. until_goes r older (ended_in (a ∷ older) c) refl up)
   where
-    by : (b : Bool) → (Upright (ended_in (a ∷ older) c) → Goes (ended_in (a ∷ older) c) (ended_until r older (ended_in (a ∷ older) c))) → Goes c (elim b as (λ is. Configuration) [ true ↦ c | false ↦ ended_until r older (ended_in (a ∷ older) c) ])
+    by : (b : Bool) → (Upright (ended_in (a ∷ older) c) → Goes (ended_in (a ∷ older) c) (ended_until r older (ended_in (a ∷ older) c))) →
+        Goes c (elim b as (λ is. Configuration) [ true ↦ c | false ↦ ended_until r older (ended_in (a ∷ older) c) ])
     by true later = goes_itself c up
     by false later = let now = ended_goes (a ∷ older) c e up in goes_still c (ended_in (a ∷ older) c) (ended_until r older (ended_in (a ∷ older) c)) now (later now.0)
 
@@ -115,7 +125,8 @@ until_more r [] more c = refl
 until_more r (a ∷ older) more c = by (nat_eq a.number r) (until_more r older more (ended_in (a ∷ older) c))
   where
     by : (b : Bool) → ended_until r older (with_more more (ended_in (a ∷ older) c)) ≡ with_more more (ended_until r older (ended_in (a ∷ older) c)) →
-        (elim b as (λ is. Configuration) [ true ↦ with_more more c | false ↦ ended_until r older (ended_in (a ∷ older) (with_more more c)) ]) ≡ with_more more (elim b as (λ is. Configuration) [ true ↦ c | false ↦ ended_until r older (ended_in (a ∷ older) c) ])
+        (elim b as (λ is. Configuration) [ true ↦ with_more more c | false ↦ ended_until r older (ended_in (a ∷ older) (with_more more c)) ]) ≡ with_more more
+        (elim b as (λ is. Configuration) [ true ↦ c | false ↦ ended_until r older (ended_in (a ∷ older) c) ])
     by true later = refl
     by false later = later
 
@@ -161,7 +172,8 @@ room_still : (at cells : ℕ) → Still (must_have_room at cells)
 room_still at cells b v d e =
     still_then (limited_still (nat_lt (length b.activations) ACTIVATION_LIMIT) at 1) (limited_still (nat_le (live_cells b + cells) CELL_LIMIT) at 2) b v d e
 
-still_at : {A B : Type 0} {closed : Path → Bool} {m : Action A} {o : Action B} (c : Configuration) → Steady closed m → Still m → ((d : Configuration) → d.activations ≡ c.activations → SteadyAt closed d o) → SteadyAt closed c (m >> o)
+still_at : {A B : Type 0} {closed : Path → Bool} {m : Action A} {o : Action B} (c : Configuration) → Steady closed m → Still m →
+    ((d : Configuration) → d.activations ≡ c.activations → SteadyAt closed d o) → SteadyAt closed c (m >> o)
 still_at c f still g = then_at c (f.by c) (λ b v d roots acts e. g d (ap (λ d. d.activations) (still b v d e) ∙ acts))
 
 -- ---- calls
@@ -175,7 +187,8 @@ found_live (x ∷ older) r a e = by (nat_eq x.number r) e
     live_in [] e = absurd (let f : ⊥ = cc in f)
     live_in (y ∷ more) e = by_number (nat_eq y.number r) (live_in more) e
       where
-        by_number : (b : Bool) → (find_activation more r ≡ Some a → is_live more r ≡ true) → (elim b as (λ is. Option Activation) [ true ↦ Some y | false ↦ find_activation more r ]) ≡ Some a → (b || is_live more r) ≡ true
+        by_number : (b : Bool) → (find_activation more r ≡ Some a → is_live more r ≡ true) →
+            (elim b as (λ is. Option Activation) [ true ↦ Some y | false ↦ find_activation more r ]) ≡ Some a → (b || is_live more r) ≡ true
         by_number true f e = refl
         by_number false f e = f e
 
@@ -184,7 +197,8 @@ found_live (x ∷ older) r a e = by (nat_eq x.number r) e
     by false e = live_in older e
 
 pub left_steady : {closed : Path → Bool} (block : PlainTypedBlock) (number : ℕ) → Steady closed (leave_procedure block number)
-left_steady block number = record { by = λ c. let h = update_at left_behind c (λ more. ended_more c.activations more c) (ended_goes c.activations c refl) in record { onward = h.onward; so = h.so } }
+left_steady block number =
+    record { by = λ c. let h = update_at left_behind c (λ more. ended_more c.activations more c) (ended_goes c.activations c refl) in record { onward = h.onward; so = h.so } }
 
 leave_function_steady : {closed : Path → Bool} (at : ℕ) (block : PlainTypedBlock) (number : ℕ) → Steady closed (leave_function at block number)
 leave_function_steady at block number =
@@ -209,23 +223,29 @@ pub record SelfSteady (p : Program) (self : Self) : Type 0 where
   pub by : (t : Task) → Steady p.is_closed (self t)
 
 module _ (p : Program) (self : Self) (good : SelfSteady p self) where
-  entered_goes : (at : ℕ) (block : PlainTypedBlock) (parent : ℕ) (actuals : Values) (c : Configuration) → HasParent parent c.activations → Upright c → Goes c (entered p at block parent actuals c)
+  entered_goes : (at : ℕ) (block : PlainTypedBlock) (parent : ℕ) (actuals : Values) (c : Configuration) → HasParent parent c.activations → Upright c →
+      Goes c (entered p at block parent actuals c)
   entered_goes at block parent actuals c has up =
-      let further : Further c (entered p at block parent actuals c) = record { next = omega arith; output = by (nat_eq 0 c.next) refl } in
-      (record { in_order = (omega arith, has, up.in_order); some = omega arith; left = up.left; tags = tags_further c (entered p at block parent actuals c) further up.tags }, further)
+      let further : Further c (entered p at block parent actuals c) = record { next = omega arith; output = by (nat_eq 0 c.next) refl } in (
+        record { in_order = (omega arith, has, up.in_order); some = omega arith; left = up.left; tags = tags_further c (entered p at block parent actuals c) further up.tags },
+        further,
+      )
     where
-      by : (b : Bool) → nat_eq 0 c.next ≡ b → Grown (c.roots 0).value (elim b as (λ is. Held) [ true ↦ record { value = Structure (frame_values p.form actuals block.frame); live = true } | false ↦ c.roots 0 ]).value
+      by : (b : Bool) → nat_eq 0 c.next ≡ b → Grown (c.roots 0).value
+          (elim b as (λ is. Held) [ true ↦ record { value = Structure (frame_values p.form actuals block.frame); live = true } | false ↦ c.roots 0 ]).value
       by true e = absurd (let same : 0 ≡ c.next = eqb-true 0 c.next e in let some = up.some in let f : ⊥ = omega (arith, same, some) in f)
       by false e = grown_itself (c.roots 0).value
 
-  enter_at : {A : Type 0} (at : ℕ) (block : PlainTypedBlock) (parent : ℕ) (actuals : Values) (leave : ℕ → Action A) (c : Configuration) → HasParent parent c.activations → ((number : ℕ) → Steady p.is_closed (leave number)) → SteadyAt p.is_closed c (enter p self at block parent actuals leave)
+  enter_at : {A : Type 0} (at : ℕ) (block : PlainTypedBlock) (parent : ℕ) (actuals : Values) (leave : ℕ → Action A) (c : Configuration) → HasParent parent c.activations →
+      ((number : ℕ) → Steady p.is_closed (leave number)) → SteadyAt p.is_closed c (enter p self at block parent actuals leave)
   enter_at {A} at block parent actuals leave c has f = record {
     onward = λ up.
         let goes = entered_goes at block parent actuals c has up in
         onward_still c inside _ goes.1 (onward_bind inside done rest (outside up) (λ v d e up. ((f c.next).by d).onward up));
     so = λ more up.
         let goes = entered_goes at block parent actuals c has up in
-        so_bind more done (outward c.next (self (Body block.path) (with_more more inside))) rest (so_outward c.next more _ _ (((good.by (Body block.path)).by inside).so more goes.0))
+        so_bind more done (outward c.next (self (Body block.path) (with_more more inside))) rest
+        (so_outward c.next more _ _ (((good.by (Body block.path)).by inside).so more goes.0))
         (λ v d e. ((f c.next).by d).so more (upright_done inside done v d (outside up) e))
         (λ v d e up. ((f c.next).by d).onward up);
   }
@@ -242,23 +262,32 @@ module _ (p : Program) (self : Self) (good : SelfSteady p self) where
       outside : Upright c → Onward p.is_closed inside done
       outside up = let goes = entered_goes at block parent actuals c has up in onward_outward c.next inside _ (((good.by (Body block.path)).by inside).onward goes.0)
 
-  pub call_block_at : {A : Type 0} (at : ℕ) (path : Path) (parent : ℕ) (actuals : Values) (leave : PlainTypedBlock → ℕ → Action A) (c : Configuration) → HasParent parent c.activations → ((block : PlainTypedBlock) (number : ℕ) → Steady p.is_closed (leave block number)) → SteadyAt p.is_closed c (call_block p self at path parent actuals leave)
+  pub call_block_at : {A : Type 0} (at : ℕ) (path : Path) (parent : ℕ) (actuals : Values) (leave : PlainTypedBlock → ℕ → Action A) (c : Configuration) →
+      HasParent parent c.activations → ((block : PlainTypedBlock) (number : ℕ) → Steady p.is_closed (leave block number)) →
+      SteadyAt p.is_closed c (call_block p self at path parent actuals leave)
   call_block_at at path parent actuals leave c has g =
       bind_at c ((needs_steady (block_of p path)).by c) (λ b block d roots acts e.
-      still_at d (unless_steady (nat_eq (count actuals) (parameter_count block.frame)) wrong_steady) (tested_still (nat_eq (count actuals) (parameter_count block.frame))) (λ d1 a1.
-      still_at d1 (unless_steady (nat_le (saturated (cells_in_all actuals)) block.counted) wrong_steady) (tested_still (nat_le (saturated (cells_in_all actuals)) block.counted)) (λ d2 a2.
+      still_at d (unless_steady (nat_eq (count actuals) (parameter_count block.frame)) wrong_steady) (tested_still (nat_eq (count actuals) (parameter_count block.frame)))
+      (λ d1 a1.
+      still_at d1 (unless_steady (nat_le (saturated (cells_in_all actuals)) block.counted) wrong_steady) (tested_still (nat_le (saturated (cells_in_all actuals)) block.counted))
+      (λ d2 a2.
       still_at d2 (hole_steady p path at) (hole_still (p.is_closed path) path at) (λ d3 a3.
       still_at d3 (room_steady at block.counted) (room_still at block.counted) (λ d4 a4.
-      still_at d4 (unless_steady (nat_eq (frame_cells p.form block.frame) block.counted) wrong_steady) (tested_still (nat_eq (frame_cells p.form block.frame) block.counted)) (λ d5 a5.
-      still_at d5 (unless_steady (nat_eq (cells_in_all (frame_values p.form actuals block.frame)) block.counted) wrong_steady) (tested_still (nat_eq (cells_in_all (frame_values p.form actuals block.frame)) block.counted)) (λ d6 a6.
+      still_at d4 (unless_steady (nat_eq (frame_cells p.form block.frame) block.counted) wrong_steady) (tested_still (nat_eq (frame_cells p.form block.frame) block.counted))
+      (λ d5 a5.
+      still_at d5 (unless_steady (nat_eq (cells_in_all (frame_values p.form actuals block.frame)) block.counted) wrong_steady)
+      (tested_still (nat_eq (cells_in_all (frame_values p.form actuals block.frame)) block.counted)) (λ d6 a6.
       let d0 : d.activations ≡ c.activations = ap (λ d. d.activations) (needs_still (block_of p path) b block d e) ∙ acts in
       enter_at at block parent actuals (leave block) d6 (subst (HasParent parent) (sym (a6 ∙ a5 ∙ a4 ∙ a3 ∙ a2 ∙ a1 ∙ d0)) has) (λ number. g block number))))))))
 
-  pub call_steady : {A : Type 0} (at : ℕ) (f : Value) (actuals : Values) (leave : PlainTypedBlock → ℕ → Action A) → ((block : PlainTypedBlock) (number : ℕ) → Steady p.is_closed (leave block number)) → Steady p.is_closed (call p self at f actuals leave)
+  pub call_steady : {A : Type 0} (at : ℕ) (f : Value) (actuals : Values) (leave : PlainTypedBlock → ℕ → Action A) →
+      ((block : PlainTypedBlock) (number : ℕ) → Steady p.is_closed (leave block number)) → Steady p.is_closed (call p self at f actuals leave)
   call_steady at (Routine path parent) actuals leave g = record {
-    by = λ c. now_at {go = λ c. needs (find_activation c.activations parent) >>= (λ a. call_block p self at path parent actuals leave)} c (λ more c. refl) (bind_at c ((needs_steady (find_activation c.activations parent)).by c) (λ b a d roots acts e.
+    by = λ c. now_at {go = λ c. needs (find_activation c.activations parent) >>= (λ a. call_block p self at path parent actuals leave)} c (λ more c. refl)
+        (bind_at c ((needs_steady (find_activation c.activations parent)).by c) (λ b a d roots acts e.
         let same : d.activations ≡ c.activations = ap (λ d. d.activations) (needs_still (find_activation c.activations parent) b a d e) ∙ acts in
-        call_block_at at path parent actuals leave d (subst (HasParent parent) (sym same) (found_live c.activations parent a (needs_found (find_activation c.activations parent) b a d e))) g));
+        call_block_at at path parent actuals leave d (subst (HasParent parent) (sym same)
+        (found_live c.activations parent a (needs_found (find_activation c.activations parent) b a d e))) g));
   }
   call_steady at Undefined actuals leave g = wrong_steady
   call_steady at (Number n) actuals leave g = wrong_steady
@@ -329,9 +358,11 @@ module _ (p : Program) (self : Self) (good : SelfSteady p self) where
       walk_steady setting r tree.NoSelectors = gives_steady r
       walk_steady setting r (tree.Index index low high size more) =
           bind_steady (eval_steady index) (λ v. bind_steady (number_steady v) (λ i.
-          then_steady (unless_steady (lies_in low high i) (fault_steady at 4)) (bind_steady (part_steady r (natural (i -ℤ low)) (natural (i -ℤ low) * size)) (λ component. walk_steady setting component more))))
+          then_steady (unless_steady (lies_in low high i) (fault_steady at 4))
+          (bind_steady (part_steady r (natural (i -ℤ low)) (natural (i -ℤ low) * size)) (λ component. walk_steady setting component more))))
       walk_steady setting r (tree.Field field more) =
-          then_steady (pass_all_steady at (setting && not (goes_through more)) r field.guards) (bind_steady (part_steady r field.slot field.offset) (λ component. walk_steady setting component more))
+          then_steady (pass_all_steady at (setting && not (goes_through more)) r field.guards)
+          (bind_steady (part_steady r field.slot field.offset) (λ component. walk_steady setting component more))
       walk_steady setting r (tree.Follow more) =
           bind_steady (load_steady at sort.Pointer r) (λ v. bind_steady (pointer_steady v) (λ i. bind_steady (object_steady at i) (λ o. walk_steady setting o more)))
       walk_steady setting r (tree.Buffer more) = bind_steady (part_steady r 1 1) (λ buffer. walk_steady setting buffer more)

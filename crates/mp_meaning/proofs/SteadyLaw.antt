@@ -90,7 +90,8 @@ none_left b c n Wrong g e = absurd (let f : ⊥ = cc in f)
 fewer : (n left : ℕ) → 0 < n → 0 < left → n - left < n
 fewer n left some more = omega (arith, some, more)
 
-fewer_steps : {closed : Path → Bool} (b : Configuration) (n steps : ℕ) (ending : Ending) (output : List ℕ) (o : Outcome (Unit {0})) → 0 < n → Onward closed b o → standing n o ≡ Ends ending steps output → steps < n
+fewer_steps : {closed : Path → Bool} (b : Configuration) (n steps : ℕ) (ending : Ending) (output : List ℕ) (o : Outcome (Unit {0})) → 0 < n → Onward closed b o →
+    standing n o ≡ Ends ending steps output → steps < n
 fewer_steps b n steps ending output (Done v d) some g e = let same : n - d.left ≡ steps = cc in subst (λ s. s < n) same (let h = g.by in fewer n d.left some h.0.left)
 fewer_steps b n steps ending output (Fault x at d) some g e = let same : n - d.left ≡ steps = cc in subst (λ s. s < n) same (let h = g.by in fewer n d.left some h.0.left)
 fewer_steps b n steps ending output (Limit x at d) some g e = let same : n - d.left ≡ steps = cc in subst (λ s. s < n) same (let h = g.by in fewer n d.left some h.0.left)
@@ -108,7 +109,8 @@ starts_are_counted p input (suc n) =
       λ ending steps output e. fewer_steps (before_program input (suc n)) (suc n) steps ending output (up_to p input (suc n)) (omega arith) g e,
     )
 
-met_closed : {closed : Path → Bool} (b : Configuration) (n steps : ℕ) (path : Path) (place : Place) (output : List ℕ) (o : Outcome (Unit {0})) → Onward closed b o → standing n o ≡ Ends (MetHole path place) steps output → closed path ≡ true
+met_closed : {closed : Path → Bool} (b : Configuration) (n steps : ℕ) (path : Path) (place : Place) (output : List ℕ) (o : Outcome (Unit {0})) → Onward closed b o →
+    standing n o ≡ Ends (MetHole path place) steps output → closed path ≡ true
 met_closed {closed} b n steps path place output (Hole q at d) g e = let same : q ≡ path = cc in subst (λ q. closed q ≡ true) same (let h = g.by in h.0)
 met_closed b n steps path place output (Done v d) g e = absurd (let f : ⊥ = cc in f)
 met_closed b n steps path place output (Jump l r d) g e = absurd (let f : ⊥ = cc in f)
@@ -151,7 +153,8 @@ endings_stay p input (suc n) zero steps ending output le e = absurd (let f : ⊥
 endings_stay p input (suc n) (suc m) steps ending output le e =
     ending_stays (suc n) (suc m) (up_to p input (suc n)) (up_to p input (suc m)) le (run_so p input (suc n) (suc m) (omega arith) le) (subst IsEnding (sym e) tt) ∙ e
 
-stood : {closed : Path → Bool} (more n m : ℕ) (o q : Outcome (Unit {0})) (c : Configuration) → So closed more o q → IsNotSpent o → standing m q ≡ Stands c → (b : Configuration) × (standing n o ≡ Stands b)
+stood : {closed : Path → Bool} (more n m : ℕ) (o q : Outcome (Unit {0})) (c : Configuration) → So closed more o q → IsNotSpent o → standing m q ≡ Stands c → (b : Configuration) ×
+    (standing n o ≡ Stands b)
 stood more n m (Paused d) q c s some e = (d, refl)
 stood more n m (Done v d) q c s some e = absurd (let other = sym (ap (standing m) s.by) ∙ e in let f : ⊥ = cc in f)
 stood more n m (Jump l r d) q c s some e = absurd (let other = sym (ap (standing m) s.by) ∙ e in let f : ⊥ = cc in f)

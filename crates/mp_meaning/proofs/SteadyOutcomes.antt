@@ -89,7 +89,8 @@ onward_still b c (Paused d) f g = let h = g.by in record { by = (h.0, h.1, furth
 onward_still b c Spent f g = record { by = tt }
 onward_still b c Wrong f g = record { by = tt }
 
-pub onward_bind : {A B : Type 0} {closed : Path → Bool} (c : Configuration) (o : Outcome A) (go : A → Configuration → Outcome B) → Onward closed c o → ((v : A) (d : Configuration) → o ≡ Done v d → Upright d → Onward closed d (go v d)) → Onward closed c (bind o go)
+pub onward_bind : {A B : Type 0} {closed : Path → Bool} (c : Configuration) (o : Outcome A) (go : A → Configuration → Outcome B) → Onward closed c o →
+    ((v : A) (d : Configuration) → o ≡ Done v d → Upright d → Onward closed d (go v d)) → Onward closed c (bind o go)
 onward_bind c (Done v d) go g f = let h = g.by in onward_still c d (go v d) h.1 (f v d refl h.0)
 onward_bind c (Jump l r d) go g f = record { by = g.by }
 onward_bind c (Fault number at d) go g f = record { by = g.by }
@@ -117,7 +118,8 @@ upright_done {A} {closed} c o v d g e = let h : Goes c d = (subst (λ o. Onward 
 
 -- The second action may rest on what the first one gives, begun here or with more starts left.
 pub bind_at : {A B : Type 0} {closed : Path → Bool} {m : Action A} {go : A → Action B} (c : Configuration) → SteadyAt closed c m →
-    ((b : Configuration) (v : A) (d : Configuration) → b.roots ≡ c.roots → b.activations ≡ c.activations → m b ≡ Done v d → SteadyAt closed d (go v)) → SteadyAt closed c (m >>= go)
+    ((b : Configuration) (v : A) (d : Configuration) → b.roots ≡ c.roots → b.activations ≡ c.activations → m b ≡ Done v d → SteadyAt closed d (go v)) →
+    SteadyAt closed c (m >>= go)
 bind_at {m = m} {go = go} c f g = record {
   onward = λ up. onward_bind c (m c) go (f.onward up) (λ v d e up. (g c v d refl refl e).onward up);
   so = λ more up. so_bind more (m c) (m (with_more more c)) go (f.so more up)
@@ -134,13 +136,15 @@ then_at {m = m} {o = o} c f g = record {
       (λ v d e up. (g (with_more more c) v d refl refl e).onward up);
 }
 
-pub bind_with : {A B : Type 0} {closed : Path → Bool} {m : Action A} {go : A → Action B} → Steady closed m → ((c : Configuration) (v : A) (d : Configuration) → m c ≡ Done v d → SteadyAt closed d (go v)) → Steady closed (m >>= go)
+pub bind_with : {A B : Type 0} {closed : Path → Bool} {m : Action A} {go : A → Action B} → Steady closed m →
+    ((c : Configuration) (v : A) (d : Configuration) → m c ≡ Done v d → SteadyAt closed d (go v)) → Steady closed (m >>= go)
 bind_with f g = record { by = λ c. bind_at c (f.by c) (λ b v d r a e. g b v d e) }
 
 pub bind_steady : {A B : Type 0} {closed : Path → Bool} {m : Action A} {go : A → Action B} → Steady closed m → ((v : A) → Steady closed (go v)) → Steady closed (m >>= go)
 bind_steady f g = record { by = λ c. bind_at c (f.by c) (λ b v d r a e. (g v).by d) }
 
-pub then_with : {A B : Type 0} {closed : Path → Bool} {m : Action A} {o : Action B} → Steady closed m → ((c : Configuration) (v : A) (d : Configuration) → m c ≡ Done v d → SteadyAt closed d o) → Steady closed (m >> o)
+pub then_with : {A B : Type 0} {closed : Path → Bool} {m : Action A} {o : Action B} → Steady closed m →
+    ((c : Configuration) (v : A) (d : Configuration) → m c ≡ Done v d → SteadyAt closed d o) → Steady closed (m >> o)
 then_with f g = record { by = λ c. then_at c (f.by c) (λ b v d r a e. g b v d e) }
 
 pub then_steady : {A B : Type 0} {closed : Path → Bool} {m : Action A} {o : Action B} → Steady closed m → Steady closed o → Steady closed (m >> o)
@@ -171,20 +175,24 @@ needs_steady None = record { by = λ c. record { onward = λ up. record { by = t
 needs_steady (Some x) = record { by = λ c. record { onward = done_at x c; so = λ more up. record { by = refl } } }
 
 -- an action that looks at the configuration, and not at the starts that are left
-pub now_at : {A : Type 0} {closed : Path → Bool} {go : Configuration → Action A} (c : Configuration) → ((more : ℕ) (c : Configuration) → go (with_more more c) ≡ go c) → SteadyAt closed c (go c) → SteadyAt closed c (now >>= go)
+pub now_at : {A : Type 0} {closed : Path → Bool} {go : Configuration → Action A} (c : Configuration) → ((more : ℕ) (c : Configuration) → go (with_more more c) ≡ go c) →
+    SteadyAt closed c (go c) → SteadyAt closed c (now >>= go)
 now_at {closed = closed} {go = go} c same g = record {
   onward = g.onward;
   so = λ more up. subst (λ f. So closed more (go c c) (f (with_more more c))) (sym (same more c)) (g.so more up);
 }
 
-pub now_steady : {A : Type 0} {closed : Path → Bool} {go : Configuration → Action A} → ((more : ℕ) (c : Configuration) → go (with_more more c) ≡ go c) → ((c : Configuration) → Steady closed (go c)) → Steady closed (now >>= go)
+pub now_steady : {A : Type 0} {closed : Path → Bool} {go : Configuration → Action A} → ((more : ℕ) (c : Configuration) → go (with_more more c) ≡ go c) →
+    ((c : Configuration) → Steady closed (go c)) → Steady closed (now >>= go)
 now_steady same g = record { by = λ c. now_at c same ((g c).by c) }
 
 -- a change of the configuration here
-pub update_at : {closed : Path → Bool} (change : Configuration → Configuration) (c : Configuration) → ((more : ℕ) → change (with_more more c) ≡ with_more more (change c)) → (Upright c → Goes c (change c)) → SteadyAt closed c (update change)
+pub update_at : {closed : Path → Bool} (change : Configuration → Configuration) (c : Configuration) → ((more : ℕ) → change (with_more more c) ≡ with_more more (change c)) →
+    (Upright c → Goes c (change c)) → SteadyAt closed c (update change)
 update_at change c same goes = record { onward = λ up. record { by = goes up }; so = λ more up. record { by = ap (Done tt) (same more) } }
 
-pub choose_at : {A : Type 0} {closed : Path → Bool} (b : Bool) {m o : Action A} (c : Configuration) → (b ≡ true → SteadyAt closed c m) → (b ≡ false → SteadyAt closed c o) → SteadyAt closed c (choose b m o)
+pub choose_at : {A : Type 0} {closed : Path → Bool} (b : Bool) {m o : Action A} (c : Configuration) → (b ≡ true → SteadyAt closed c m) → (b ≡ false → SteadyAt closed c o) →
+    SteadyAt closed c (choose b m o)
 choose_at true c f g = record { onward = (f refl).onward; so = (f refl).so }
 choose_at false c f g = record { onward = (g refl).onward; so = (g refl).so }
 
@@ -201,7 +209,8 @@ tested_at true c f = record { onward = (f refl).onward; so = (f refl).so }
 tested_at false c f = record { onward = λ up. record { by = tt }; so = λ more up. record { by = refl } }
 
 -- a change of what is kept beside activations, roots, numbers and starts
-pub update_steady : {closed : Path → Bool} (change : Configuration → Configuration) → ((more : ℕ) (c : Configuration) → change (with_more more c) ≡ with_more more (change c)) → ((c : Configuration) → Upright c → Goes c (change c)) → Steady closed (update change)
+pub update_steady : {closed : Path → Bool} (change : Configuration → Configuration) → ((more : ℕ) (c : Configuration) → change (with_more more c) ≡ with_more more (change c)) →
+    ((c : Configuration) → Upright c → Goes c (change c)) → Steady closed (update change)
 update_steady change same goes = record { by = λ c. update_at change c (λ more. same more c) (goes c) }
 
 pub begin_steady : {closed : Path → Bool} (at : ℕ) → Steady closed (begin at)
@@ -253,7 +262,8 @@ onward_outward number c Wrong g = g
 pub so_outward : {closed : Path → Bool} (number more : ℕ) (o q : Outcome (Unit {0})) → So closed more o q → So closed more (outward number o) (outward number q)
 so_outward {closed} number more (Jump l r d) q g = subst (λ x. So closed more (outward number (Jump l r d)) (outward number x)) (sym g.by) (by_test (nat_eq number r))
   where
-    by_test : (b : Bool) → So closed more (elim b as (λ is. Outcome (Unit {0})) [ true ↦ Wrong | false ↦ Jump l r d ]) (elim b as (λ is. Outcome (Unit {0})) [ true ↦ Wrong | false ↦ Jump l r (with_more more d) ])
+    by_test : (b : Bool) → So closed more (elim b as (λ is. Outcome (Unit {0})) [ true ↦ Wrong | false ↦ Jump l r d ])
+        (elim b as (λ is. Outcome (Unit {0})) [ true ↦ Wrong | false ↦ Jump l r (with_more more d) ])
     by_test true = record { by = refl }
     by_test false = record { by = refl }
 so_outward number more (Done v d) q g = record { by = ap (outward number) g.by }

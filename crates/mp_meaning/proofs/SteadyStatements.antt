@@ -37,8 +37,16 @@ use Rattle.mp_meaning.proofs.SteadyExpressions.{in_order_wider, output_ended, un
 -- an object more has a number of its own
 object_goes : (f : Form) (c : Configuration) → Upright c → Goes c (with_object f c)
 object_goes f c up =
-    let further : Further c (with_object f c) = record { next = omega arith; output = by (nat_eq 0 c.next) refl } in
-    (record { in_order = in_order_wider c.next (c.next + 1) c.activations (omega arith) up.in_order; some = omega arith; left = up.left; tags = tags_further c (with_object f c) further up.tags }, further)
+    let further : Further c (with_object f c) = record { next = omega arith; output = by (nat_eq 0 c.next) refl } in (
+      record {
+        in_order = in_order_wider c.next (c.next + 1) c.activations (omega arith) up.in_order;
+        some = omega arith;
+        left = up.left;
+        tags =
+            tags_further c (with_object f c) further up.tags;
+      },
+      further,
+    )
   where
     by : (b : Bool) → nat_eq 0 c.next ≡ b → Grown (c.roots 0).value (elim b as (λ is. Root) [ true ↦ record { value = undefined f; live = true } | false ↦ c.roots 0 ]).value
     by true e = absurd (let same : 0 ≡ c.next = eqb-true 0 c.next e in let some = up.some in let f : ⊥ = omega (arith, same, some) in f)
@@ -74,7 +82,8 @@ module _ {closed : Path → Bool} where
   field_steady at writes.Integer v = bind_steady (number_steady v) (λ n. gives_steady (λ width. integer_field width n))
   field_steady at writes.Char v = bind_steady (number_steady v) (λ n. gives_steady (λ width. character_field width (natural n ∷ [])))
   field_steady at writes.Boolean v = bind_steady (number_steady v) (λ n. gives_steady (λ width. truth_field width (is_true n)))
-  field_steady at (writes.Text count) v = then_steady (unless_steady (is_structure v) wrong_steady) (bind_steady (string_steady at (string_in v)) (λ bytes. gives_steady (λ width. character_field width bytes)))
+  field_steady at (writes.Text count) v =
+      then_steady (unless_steady (is_structure v) wrong_steady) (bind_steady (string_steady at (string_in v)) (λ bytes. gives_steady (λ width. character_field width bytes)))
 
   take_steady : (at : ℕ) (of : ReadSort) (file : Reference) → Steady closed (take_value at of file)
   take_steady at reads.Integer file = read_integer_steady at file
@@ -88,13 +97,19 @@ module _ {closed : Path → Bool} where
       (then_steady (update_steady (with_object f) (λ more c. refl) (λ c up. object_goes f c up)) (set_steady at r (Pointer (suc (length c.objects))) refl))))))
 
   dispose_steady : (at object : ℕ) → Steady closed (dispose at object)
-  dispose_steady at object = bind_steady (object_steady at object) (λ o. now_steady (λ more c. refl) (λ c. then_steady (unless_steady (is_none (find_activation c.activations o.root)) wrong_steady) (update_steady (disposed o) (λ more c. refl) (λ c up. disposed_goes o c up))))
+  dispose_steady at object = bind_steady (object_steady at object)
+      (λ o. now_steady (λ more c. refl) (λ c. then_steady (unless_steady (is_none (find_activation c.activations o.root)) wrong_steady)
+      (update_steady (disposed o) (λ more c. refl) (λ c up. disposed_goes o c up))))
 
   hold_all_steady : (at : ℕ) (q : PlainPacking) (i : ℤ) → Steady closed (must_hold_all at q i)
   hold_all_steady at q i = unless_steady _ (fault_steady at 4)
 
   set_array_steady : (at : ℕ) (r : Reference) (vs : Values) → Steady closed (set_array at r vs)
-  set_array_steady at r vs = record { by = λ c. choose_at (nat_eq r.root 0) c (λ standard. wrong_steady.by c) (λ own. set_at at r (Structure vs) c (λ old e standard form. absurd (let f : ⊥ = not_zero r.root own standard in f))) }
+  set_array_steady at r vs =
+      record {
+        by = λ c. choose_at (nat_eq r.root 0) c (λ standard. wrong_steady.by c)
+            (λ own. set_at at r (Structure vs) c (λ old e standard form. absurd (let f : ⊥ = not_zero r.root own standard in f)));
+      }
 
   pack_steady : (at : ℕ) (q : PlainPacking) (a z : Reference) (i : ℤ) → Steady closed (pack at q a z i)
   pack_steady at q a z i = then_steady (hold_all_steady at q i) (bind_steady (held_steady at a) (λ v. set_array_steady at z _))
@@ -164,14 +179,16 @@ module _ (p : Program) (self : Self) (good : SelfSteady p self) where
 
   -- ---- catching jumps
 
-  caught_onward : (opened : List Reference) (number : ℕ) (whole : PlainTypedStatements) (c : Configuration) (o : Outcome (Unit {0})) → Onward p.is_closed c o → Onward p.is_closed c (caught self opened number whole o)
+  caught_onward : (opened : List Reference) (number : ℕ) (whole : PlainTypedStatements) (c : Configuration) (o : Outcome (Unit {0})) → Onward p.is_closed c o →
+      Onward p.is_closed c (caught self opened number whole o)
   caught_onward opened number whole c (Jump l r d) g = by_test (nat_eq number r)
     where
       found : (t : Option PlainTypedStatements) → Onward p.is_closed c (go_on self opened whole t (Jump l r d) d)
       found None = g
       found (Some rest) = let h = g.by in onward_still c d _ h.1 (((good.by (Again whole rest opened)).by d).onward h.0)
 
-      by_test : (b : Bool) → Onward p.is_closed c (elim b as (λ is. Outcome (Unit {0})) [ true ↦ go_on self opened whole (from_label l whole) (Jump l r d) d | false ↦ Jump l r d ])
+      by_test : (b : Bool) → Onward p.is_closed c (elim b as (λ is. Outcome (Unit {0}))
+          [ true ↦ go_on self opened whole (from_label l whole) (Jump l r d) d | false ↦ Jump l r d ])
       by_test true = found (from_label l whole)
       by_test false = g
   caught_onward opened number whole c (Done v d) g = g
@@ -182,14 +199,23 @@ module _ (p : Program) (self : Self) (good : SelfSteady p self) where
   caught_onward opened number whole c Spent g = g
   caught_onward opened number whole c Wrong g = g
 
-  caught_so : (opened : List Reference) (number more : ℕ) (whole : PlainTypedStatements) (c : Configuration) (o q : Outcome (Unit {0})) → Onward p.is_closed c o → So p.is_closed more o q → So p.is_closed more (caught self opened number whole o) (caught self opened number whole q)
-  caught_so opened number more whole c (Jump l r d) q g s = subst (λ x. So p.is_closed more (caught self opened number whole (Jump l r d)) (caught self opened number whole x)) (sym s.by) (by_test (nat_eq number r))
+  caught_so : (opened : List Reference) (number more : ℕ) (whole : PlainTypedStatements) (c : Configuration) (o q : Outcome (Unit {0})) → Onward p.is_closed c o →
+      So p.is_closed more o q → So p.is_closed more (caught self opened number whole o) (caught self opened number whole q)
+  caught_so opened number more whole c (Jump l r d) q g s =
+      subst (λ x. So p.is_closed more (caught self opened number whole (Jump l r d)) (caught self opened number whole x)) (sym s.by) (by_test (nat_eq number r))
     where
-      found : (t : Option PlainTypedStatements) → So p.is_closed more (go_on self opened whole t (Jump l r d) d) (go_on self opened whole t (Jump l r (with_more more d)) (with_more more d))
+      found : (t : Option PlainTypedStatements) → So p.is_closed more (go_on self opened whole t (Jump l r d) d)
+          (go_on self opened whole t (Jump l r (with_more more d)) (with_more more d))
       found None = record { by = refl }
       found (Some rest) = let h = g.by in ((good.by (Again whole rest opened)).by d).so more h.0
 
-      by_test : (b : Bool) → So p.is_closed more (elim b as (λ is. Outcome (Unit {0})) [ true ↦ go_on self opened whole (from_label l whole) (Jump l r d) d | false ↦ Jump l r d ]) (elim b as (λ is. Outcome (Unit {0})) [ true ↦ go_on self opened whole (from_label l whole) (Jump l r (with_more more d)) (with_more more d) | false ↦ Jump l r (with_more more d) ])
+      by_test : (b : Bool) → So p.is_closed more (elim b as (λ is. Outcome (Unit {0}))
+          [ true ↦ go_on self opened whole (from_label l whole) (Jump l r d) d | false ↦ Jump l r d ])
+          (elim b as (λ is. Outcome (Unit {0})) [
+            | true ↦ go_on self opened whole (from_label l whole) (Jump l r (with_more more d)) (with_more more d)
+            | false ↦
+                Jump l r (with_more more d)
+          ])
       by_test true = found (from_label l whole)
       by_test false = record { by = refl }
   caught_so opened number more whole c (Done v d) q g s = record { by = ap (caught self opened number whole) s.by }
@@ -223,19 +249,25 @@ module _ (p : Program) (self : Self) (good : SelfSteady p self) where
     repeat_next : (at : ℕ) (ss : PlainTypedStatements) (e : PlainTypedExpr) → Steady p.is_closed (λ c. self (RepeatTurn at ss e opened) c)
     repeat_next at ss e = record { by = λ c. (good.by (RepeatTurn at ss e opened)).by c }
 
-    repeat_steady : (at : ℕ) (s : PlainTypedStatement) (more : PlainTypedStatements) (e : PlainTypedExpr) (body : Command) → Steady p.is_closed body → Steady p.is_closed (repeat_turn p self opened at (tree.Sequence s more) e body)
+    repeat_steady : (at : ℕ) (s : PlainTypedStatement) (more : PlainTypedStatements) (e : PlainTypedExpr) (body : Command) → Steady p.is_closed body →
+        Steady p.is_closed (repeat_turn p self opened at (tree.Sequence s more) e body)
     repeat_steady at s more e body f =
         then_steady f (bind_steady ((test_steady at e)) (λ b. choose_steady b skip_steady (repeat_next at (tree.Sequence s more) e)))
 
-    for_next : (at : ℕ) (head : PlainTypedFor) (variable : Reference) (value last : ℤ) (s : PlainTypedStatement) → Steady p.is_closed (λ c. self (ForTurn at head variable value last s opened) c)
+    for_next : (at : ℕ) (head : PlainTypedFor) (variable : Reference) (value last : ℤ) (s : PlainTypedStatement) →
+        Steady p.is_closed (λ c. self (ForTurn at head variable value last s opened) c)
     for_next at head variable value last s = record { by = λ c. (good.by (ForTurn at head variable value last s opened)).by c }
 
-    for_turn_steady : (at : ℕ) (head : PlainTypedFor) (variable : Reference) (value last : ℤ) (s : PlainTypedStatement) (body : Command) → Steady p.is_closed body → Steady p.is_closed (for_turn p self opened at head variable value last s body)
+    for_turn_steady : (at : ℕ) (head : PlainTypedFor) (variable : Reference) (value last : ℤ) (s : PlainTypedStatement) (body : Command) → Steady p.is_closed body →
+        Steady p.is_closed (for_turn p self opened at head variable value last s body)
     for_turn_steady at head variable value last s body f =
         then_steady (set_steady at variable (Number value) refl) (then_steady f
-        (choose_steady (same_number value last) (set_steady at variable Undefined refl) (then_steady (unless_steady (lies_in least_integer maxint (after head.direction value)) wrong_steady) (for_next at head variable (after head.direction value) last s))))
+        (choose_steady (same_number value last) (set_steady at variable Undefined refl)
+        (then_steady (unless_steady (lies_in least_integer maxint (after head.direction value)) wrong_steady)
+        (for_next at head variable (after head.direction value) last s))))
 
-    for_steady : (at : ℕ) (head : PlainTypedFor) (s : PlainTypedStatement) (body : Command) → Steady p.is_closed body → Steady p.is_closed (for_statement p self opened at head s body)
+    for_steady : (at : ℕ) (head : PlainTypedFor) (s : PlainTypedStatement) (body : Command) → Steady p.is_closed body →
+        Steady p.is_closed (for_statement p self opened at head s body)
     for_steady at head s body f =
         then_steady (begin_steady at) (bind_steady (eval_number_steady p self good opened at head.first) (λ value.
         bind_steady (eval_number_steady p self good opened at head.last) (λ last.

@@ -43,32 +43,39 @@ held_is at r c v d e = by_live (c.roots r.root).live e
     by_found None f e = absurd (let f : ⊥ = cc in f)
     by_found (Some x) f e = let same : x ≡ v = cc in (cc, f ∙ ap Some same)
 
-    by_alike : (b : Bool) → bind (unless b wrong c) (λ u c2. needs (component (c.roots r.root).value r.way) c2) ≡ Done v d → (d ≡ c) × (component (c.roots r.root).value r.way ≡ Some v)
+    by_alike : (b : Bool) → bind (unless b wrong c) (λ u c2. needs (component (c.roots r.root).value r.way) c2) ≡ Done v d → (d ≡ c) ×
+        (component (c.roots r.root).value r.way ≡ Some v)
     by_alike true e = by_found (component (c.roots r.root).value r.way) refl e
     by_alike false e = absurd (let f : ⊥ = cc in f)
 
-    by_live : (b : Bool) → bind (unless b (fault at 8) c) (λ u c2. bind (unless (alike r.type (c2.roots r.root).value) wrong c2) (λ u c3. needs (component (c2.roots r.root).value r.way) c3)) ≡ Done v d →
+    by_live : (b : Bool) → bind (unless b (fault at 8) c) (λ u c2. bind (unless (alike r.type (c2.roots r.root).value) wrong c2)
+        (λ u c3. needs (component (c2.roots r.root).value r.way) c3)) ≡ Done v d →
         (d ≡ c) × (component (c.roots r.root).value r.way ≡ Some v)
     by_live true e = by_alike (alike r.type (c.roots r.root).value) e
     by_live false e = absurd (let f : ⊥ = cc in f)
 
 -- a component that is changed: in the standard files it has to grow
-changed_grown : (c : Configuration) (r : Reference) (old : Value) (change : Value → Value) → component (c.roots r.root).value r.way ≡ Some old → (r.root ≡ 0 → Grown old (change old)) → Grown (c.roots 0).value ((with_changed r change c).roots 0).value
+changed_grown : (c : Configuration) (r : Reference) (old : Value) (change : Value → Value) → component (c.roots r.root).value r.way ≡ Some old →
+    (r.root ≡ 0 → Grown old (change old)) → Grown (c.roots 0).value ((with_changed r change c).roots 0).value
 changed_grown c r old change e g = by (nat_eq 0 r.root) refl
   where
-    by : (b : Bool) → nat_eq 0 r.root ≡ b → Grown (c.roots 0).value (elim b as (λ is. Root) [ true ↦ record (c.roots r.root) { value = changed (c.roots r.root).value r.way change } | false ↦ c.roots 0 ]).value
+    by : (b : Bool) → nat_eq 0 r.root ≡ b → Grown (c.roots 0).value
+        (elim b as (λ is. Root) [ true ↦ record (c.roots r.root) { value = changed (c.roots r.root).value r.way change } | false ↦ c.roots 0 ]).value
     by true h =
         let standard : 0 ≡ r.root = eqb-true 0 r.root h in
-        subst (λ q. Grown (c.roots q).value (changed (c.roots r.root).value r.way change)) (sym standard) (grown_changed (c.roots r.root).value r.way old change e (g (sym standard)))
+        subst (λ q. Grown (c.roots q).value (changed (c.roots r.root).value r.way change)) (sym standard)
+        (grown_changed (c.roots r.root).value r.way old change e (g (sym standard)))
     by false h = grown_itself (c.roots 0).value
 
-changed_goes : (c : Configuration) (r : Reference) (old : Value) (change : Value → Value) → component (c.roots r.root).value r.way ≡ Some old → (r.root ≡ 0 → Grown old (change old)) → Upright c → Goes c (with_changed r change c)
+changed_goes : (c : Configuration) (r : Reference) (old : Value) (change : Value → Value) → component (c.roots r.root).value r.way ≡ Some old →
+    (r.root ≡ 0 → Grown old (change old)) → Upright c → Goes c (with_changed r change c)
 changed_goes c r old change e g up =
     let further : Further c (with_changed r change c) = record { next = omega arith; output = changed_grown c r old change e g } in
     (record { in_order = up.in_order; some = up.some; left = up.left; tags = tags_further c (with_changed r change c) further up.tags }, further)
 
 -- a value that passed the test has no files
-number_plain : {B : Type 0} (v : Value) (c : Configuration) (go : ℤ → Configuration → Outcome B) (u : B) (d : Configuration) → bind (as_number v c) go ≡ Done u d → is_plain v ≡ true
+number_plain : {B : Type 0} (v : Value) (c : Configuration) (go : ℤ → Configuration → Outcome B) (u : B) (d : Configuration) → bind (as_number v c) go ≡ Done u d →
+    is_plain v ≡ true
 number_plain (Number n) c go u d e = refl
 number_plain Undefined c go u d e = refl
 number_plain (Members set) c go u d e = refl
@@ -78,7 +85,8 @@ number_plain (Refers root way type) c go u d e = absurd (let f : ⊥ = cc in f)
 number_plain (File f) c go u d e = absurd (let f : ⊥ = cc in f)
 number_plain (Structure vs) c go u d e = absurd (let f : ⊥ = cc in f)
 
-members_plain : {B : Type 0} (v : Value) (c : Configuration) (go : List ℕ → Configuration → Outcome B) (u : B) (d : Configuration) → bind (as_members v c) go ≡ Done u d → is_plain v ≡ true
+members_plain : {B : Type 0} (v : Value) (c : Configuration) (go : List ℕ → Configuration → Outcome B) (u : B) (d : Configuration) → bind (as_members v c) go ≡ Done u d →
+    is_plain v ≡ true
 members_plain (Number n) c go u d e = refl
 members_plain Undefined c go u d e = refl
 members_plain (Members set) c go u d e = refl
@@ -88,7 +96,8 @@ members_plain (Refers root way type) c go u d e = absurd (let f : ⊥ = cc in f)
 members_plain (File f) c go u d e = absurd (let f : ⊥ = cc in f)
 members_plain (Structure vs) c go u d e = absurd (let f : ⊥ = cc in f)
 
-pointer_plain : {B : Type 0} (v : Value) (c : Configuration) (go : ℕ → Configuration → Outcome B) (u : B) (d : Configuration) → bind (as_pointer v c) go ≡ Done u d → is_plain v ≡ true
+pointer_plain : {B : Type 0} (v : Value) (c : Configuration) (go : ℕ → Configuration → Outcome B) (u : B) (d : Configuration) → bind (as_pointer v c) go ≡ Done u d →
+    is_plain v ≡ true
 pointer_plain (Number n) c go u d e = refl
 pointer_plain Undefined c go u d e = refl
 pointer_plain (Members set) c go u d e = refl
@@ -118,7 +127,8 @@ as_file_is (Routine path parent) c f d e = absurd (let f : ⊥ = cc in f)
 as_file_is (Refers root way type) c f d e = absurd (let f : ⊥ = cc in f)
 as_file_is (Structure vs) c f d e = absurd (let f : ⊥ = cc in f)
 
-file_at_is : (at : ℕ) (r : Reference) (c : Configuration) (f : TextFile) (d : Configuration) → file_at at r c ≡ Done f d → (d ≡ c) × (component (c.roots r.root).value (file_of r).way ≡ Some (File f))
+file_at_is : (at : ℕ) (r : Reference) (c : Configuration) (f : TextFile) (d : Configuration) → file_at at r c ≡ Done f d → (d ≡ c) ×
+    (component (c.roots r.root).value (file_of r).way ≡ Some (File f))
 file_at_is at r c f d e = by (held at (file_of r) c) refl e
   where
     by : (o : Outcome Value) → held at (file_of r) c ≡ o → bind o as_file ≡ Done f d → (d ≡ c) × (component (c.roots r.root).value (file_of r).way ≡ Some (File f))
@@ -169,7 +179,8 @@ module _ {closed : Path → Bool} where
   defined_steady at v = gives_steady v
 
   pub routine_value_steady : (v : Value) → Steady closed (as_live_routine v)
-  routine_value_steady (Routine path parent) = now_steady (λ more c. refl) (λ c. bind_steady (needs_steady (find_activation c.activations parent)) (λ a. gives_steady (Routine path parent)))
+  routine_value_steady (Routine path parent) =
+      now_steady (λ more c. refl) (λ c. bind_steady (needs_steady (find_activation c.activations parent)) (λ a. gives_steady (Routine path parent)))
   routine_value_steady _ = wrong_steady
 
   pub scalar_steady : (v : Value) → Steady closed (as_scalar v)
@@ -184,7 +195,8 @@ module _ {closed : Path → Bool} where
   must_live_steady at r = now_steady (λ more c. refl) (λ c. unless_steady _ (fault_steady at 8))
 
   pub held_steady : (at : ℕ) (r : Reference) → Steady closed (held at r)
-  held_steady at r = then_steady (must_live_steady at r) (now_steady (λ more c. refl) (λ c. then_steady (unless_steady (alike r.type (c.roots r.root).value) wrong_steady) (needs_steady _)))
+  held_steady at r =
+      then_steady (must_live_steady at r) (now_steady (λ more c. refl) (λ c. then_steady (unless_steady (alike r.type (c.roots r.root).value) wrong_steady) (needs_steady _)))
 
   pub part_steady : (r : Reference) (i before : ℕ) → Steady closed (part r i before)
   part_steady r i before =
@@ -194,7 +206,8 @@ module _ {closed : Path → Bool} where
   pub read_steady : (at : ℕ) (r : Reference) → Steady closed (read at r)
   read_steady at r = bind_steady (held_steady at r) (λ v. defined_steady at v)
 
-  pub set_at : (at : ℕ) (r : Reference) (v : Value) (c : Configuration) → ((old : Value) → component (c.roots r.root).value r.way ≡ Some old → r.root ≡ 0 → alike old v ≡ true → Grown old v) → SteadyAt closed c (set at r v)
+  pub set_at : (at : ℕ) (r : Reference) (v : Value) (c : Configuration) →
+      ((old : Value) → component (c.roots r.root).value r.way ≡ Some old → r.root ≡ 0 → alike old v ≡ true → Grown old v) → SteadyAt closed c (set at r v)
   set_at at r v c g = bind_at c ((held_steady at r).by c) (λ b old d same acts e.
       let h = held_is at r b old d e in
       let roots : d.roots ≡ c.roots = ap (λ d. d.roots) h.0 ∙ same in
@@ -214,7 +227,8 @@ module _ {closed : Path → Bool} where
       let p = and_parts (is_scalar v) (can_retag (number_in_whole r) slots cells whole) may in
       update_at (with_changed (whole_of r) (retagged (number_in_whole r) v slots)) d (λ more. refl) (λ up.
       changed_goes d (whole_of r) whole (retagged (number_in_whole r) v slots) there
-      (λ standard. retagged_grown (number_in_whole r) v slots cells whole (tags_of_component (d.roots r.root).value (whole_of r).way whole (subst (λ q. NoTags (d.roots q).value) (sym standard) up.tags) there) p.0 p.1) up)))
+      (λ standard. retagged_grown (number_in_whole r) v slots cells whole
+      (tags_of_component (d.roots r.root).value (whole_of r).way whole (subst (λ q. NoTags (d.roots q).value) (sym standard) up.tags) there) p.0 p.1) up)))
 
   pub must_fit_steady : (at : ℕ) (fit : Check) (v : Value) → Steady closed (must_fit at fit v)
   must_fit_steady at (check.Range low high) v = bind_steady (number_steady v) (λ n. unless_steady _ (fault_steady at 3))
@@ -227,7 +241,8 @@ module _ {closed : Path → Bool} where
 
   pub assign_steady : (at : ℕ) (tagging : Option Tagging) (r : Reference) (v : Value) → is_plain v ≡ true → Steady closed (assign at tagging r v)
   assign_steady at None r v plain = set_steady at r v plain
-  assign_steady at (Some t) r v plain = bind_steady (held_steady at r) (λ old. choose_steady (same_variant t old v) (set_steady at r v plain) (retag_steady at r v t.slots t.cells))
+  assign_steady at (Some t) r v plain =
+      bind_steady (held_steady at r) (λ old. choose_steady (same_variant t old v) (set_steady at r v plain) (retag_steady at r v t.slots t.cells))
 
   select_steady : (at : ℕ) (setting : Bool) (r : Reference) (g : Guard) → Steady closed (select at setting r g)
   select_steady at setting r g = choose_steady (setting && g.hidden) (retag_steady at r (first_constant g.constants) g.slots g.cells) (fault_steady at 10)
@@ -243,7 +258,9 @@ module _ {closed : Path → Bool} where
 
   pub object_steady : (at object : ℕ) → Steady closed (object_of at object)
   object_steady at zero = fault_steady at 7
-  object_steady at (suc n) = now_steady (λ more c. refl) (λ c. bind_steady (needs_steady (object_root c n)) (λ root. then_steady (unless_steady (c.roots root).live (fault_steady at 8)) (gives_steady (record { root = root; way = []; type = cleared (c.roots root).value }))))
+  object_steady at (suc n) =
+      now_steady (λ more c. refl) (λ c. bind_steady (needs_steady (object_root c n))
+      (λ root. then_steady (unless_steady (c.roots root).live (fault_steady at 8)) (gives_steady (record { root = root; way = []; type = cleared (c.roots root).value }))))
 
   -- ---- operators
 
@@ -284,7 +301,8 @@ module _ {closed : Path → Bool} where
   compare_steady at sort.Ordinal r v w = on_numbers_steady _ v w (λ i j. boolean_steady (compare_numbers r i j))
   compare_steady at sort.Set r v w = bind_steady (members_steady v) (λ a. bind_steady (members_steady w) (λ b. boolean_steady (compare_sets r a b)))
   compare_steady at sort.Pointer r v w = bind_steady (pointer_steady v) (λ a. bind_steady (pointer_steady w) (λ b. boolean_steady (compare_pointers r a b)))
-  compare_steady at (sort.Block cells) r v w = then_steady (unless_steady (is_structure v && is_structure w) wrong_steady) (compare_strings_steady at r (string_in v) (string_in w))
+  compare_steady at (sort.Block cells) r v w =
+      then_steady (unless_steady (is_structure v && is_structure w) wrong_steady) (compare_strings_steady at r (string_in v) (string_in w))
   compare_steady at sort.File r v w = wrong_steady
 
   pub with_member_steady : (at : ℕ) (set : List ℕ) (n : ℤ) → Steady closed (with_member at set n)
@@ -317,8 +335,11 @@ module _ {closed : Path → Bool} where
   pub ask_steady : {A : Type 0} (at : ℕ) (r : Reference) (question : TextFile → FileCall A) → Steady closed (ask at r question)
   ask_steady at r question = bind_steady (file_at_steady at r) (λ f. answer_steady at (question f))
 
-  result_at : {A : Type 0} (at : ℕ) (r : Reference) (f : TextFile) (o : FileCall A) (c : Configuration) → component (c.roots r.root).value (file_of r).way ≡ Some (File f) → (r.root ≡ 0 → FileGrows f o) → SteadyAt closed c (result at r o)
-  result_at at r f (Gives v g) c e grows = then_at c (set_at at (file_of r) (File g) c (λ old h standard form. let same : File f ≡ old = some_inj (sym e ∙ h) in subst (λ x. Grown x (File g)) same (grows standard))) (λ b u d roots acts e. (gives_steady v).by d)
+  result_at : {A : Type 0} (at : ℕ) (r : Reference) (f : TextFile) (o : FileCall A) (c : Configuration) → component (c.roots r.root).value (file_of r).way ≡ Some (File f) →
+      (r.root ≡ 0 → FileGrows f o) → SteadyAt closed c (result at r o)
+  result_at at r f (Gives v g) c e grows =
+      then_at c (set_at at (file_of r) (File g) c (λ old h standard form. let same : File f ≡ old = some_inj (sym e ∙ h) in subst (λ x. Grown x (File g)) same (grows standard)))
+      (λ b u d roots acts e. (gives_steady v).by d)
   result_at at r f (Fails number) c e grows = (fault_steady at number).by c
 
   on_file_steady : {A : Type 0} (at : ℕ) (r : Reference) (o : TextFile → FileCall A) → (r.root ≡ 0 → (f : TextFile) → FileGrows f (o f)) → Steady closed (on_file at r o)
@@ -331,13 +352,15 @@ module _ {closed : Path → Bool} where
 
   charge_steady : (at bytes : ℕ) → Steady closed (charge at bytes)
   charge_steady at bytes = now_steady (λ more c. refl) (λ c. then_steady (unless_steady _ (limit_steady at 4))
-      (update_steady (λ c. record c { written = c.written + bytes }) (λ more c. refl) (λ c up. (record { in_order = up.in_order; some = up.some; left = up.left; tags = up.tags }, record { next = omega arith; output = grown_itself (c.roots 0).value }))))
+      (update_steady (λ c. record c { written = c.written + bytes }) (λ more c. refl)
+      (λ c up. (record { in_order = up.in_order; some = up.some; left = up.left; tags = up.tags }, record { next = omega arith; output = grown_itself (c.roots 0).value }))))
 
   must_write_steady : (at : ℕ) (r : Reference) → Steady closed (must_write at r)
   must_write_steady at r = ask_steady at r (λ f. in_writing f (Gives tt f))
 
   write_to_steady : (at : ℕ) (r : Reference) (items : List Item) → Steady closed (write_to at r items)
-  write_to_steady at r items = then_steady (must_write_steady at r) (then_steady (charge_steady at (length items)) (on_file_steady at r (write_items items) (λ standard f. write_grows items f)))
+  write_to_steady at r items =
+      then_steady (must_write_steady at r) (then_steady (charge_steady at (length items)) (on_file_steady at r (write_items items) (λ standard f. write_grows items f)))
 
   pub write_bytes_steady : (at : ℕ) (r : Reference) (bytes : List ℕ) → Steady closed (write_bytes at r bytes)
   write_bytes_steady at r bytes = write_to_steady at r (characters bytes)
@@ -360,16 +383,19 @@ module _ {closed : Path → Bool} where
   read_line_steady at r = then_steady (on_file_steady at r text.read_line (λ standard f. read_line_grows f)) (renew_steady at r)
 
   pub read_character_steady : (at : ℕ) (r : Reference) → Steady closed (read_character at r)
-  read_character_steady at r = then_steady (ask_steady at r (λ f. at_item f (Gives tt f))) (bind_steady (read_steady at (buffer_of r)) (λ v. bind_steady (number_steady v) (λ n. then_steady (get_steady at r) (gives_steady (Number n)))))
+  read_character_steady at r = then_steady (ask_steady at r (λ f. at_item f (Gives tt f)))
+      (bind_steady (read_steady at (buffer_of r)) (λ v. bind_steady (number_steady v) (λ n. then_steady (get_steady at r) (gives_steady (Number n)))))
 
   pub read_integer_steady : (at : ℕ) (r : Reference) → Steady closed (read_integer at r)
-  read_integer_steady at r = bind_steady (on_file_steady at r text.read_number (λ standard f. read_number_grows f)) (λ n. then_steady (renew_steady at r) (gives_steady (Number n)))
+  read_integer_steady at r =
+      bind_steady (on_file_steady at r text.read_number (λ standard f. read_number_grows f)) (λ n. then_steady (renew_steady at r) (gives_steady (Number n)))
 
   -- the standard files are left as they are
   begin_file_steady : (at : ℕ) (new : TextFile → TextFile) (r : Reference) → Steady closed (begin_file at new r)
   begin_file_steady at new r = bind_with (file_at_steady at r) (λ c f d e.
       choose_at (nat_eq r.root 0) d (λ standard. (unless_steady (is_open f.state) wrong_steady).by d)
-      (λ own. (then_steady (on_file_steady {A = Unit {0}} at r (λ f. Gives tt (new f)) (λ standard. absurd (let f : ⊥ = not_zero r.root own standard in f))) (renew_steady at r)).by d))
+      (λ own. (then_steady (on_file_steady {A = Unit {0}} at r (λ f. Gives tt (new f)) (λ standard. absurd (let f : ⊥ = not_zero r.root own standard in f)))
+      (renew_steady at r)).by d))
 
   pub reset_steady : (at : ℕ) (r : Reference) → Steady closed (reset at r)
   reset_steady at r = begin_file_steady at text.reset r

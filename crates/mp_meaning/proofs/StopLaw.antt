@@ -25,7 +25,8 @@ module _ (program : Program) (input : List ℕ) (is_break : Place → Bool) wher
   }
 
   -- the stop at a later step, where the run goes past the next one
-  at_later : (p b : ℕ) (s : Stop) → GoesPast is_break (at_step program input (p + 1)) → StopsFirst program input is_break (p + 1) b s → StopsFirst program input is_break p (suc b) s
+  at_later : (p b : ℕ) (s : Stop) → GoesPast is_break (at_step program input (p + 1)) → StopsFirst program input is_break (p + 1) b s →
+      StopsFirst program input is_break p (suc b) s
   at_later p b s goes later = record {
     step = later.step;
     past = let past = later.past in omega (arith, past);
@@ -54,13 +55,16 @@ module _ (program : Program) (input : List ℕ) (is_break : Place → Bool) wher
       next : (s : Standing) (q : Stop) → at_step program input (p + 1) ≡ s → IsStopAt is_break (p + 1) (p + suc b) s q → StopsFirst program input is_break p (suc b) q
       next s q e is = at_next p b q (subst (λ s. IsStopAt is_break (p + 1) (p + suc b) s q) (sym e) is)
 
-      by_break : (0 < b → StopsFirst program input is_break (p + 1) b (stop program input is_break (p + 1) b)) → (c : Configuration) (more : ℕ) (t : Bool) → more ≡ b → is_break (place_of c) ≡ t → at_step program input (p + 1) ≡ Stands c →
-          StopsFirst program input is_break p (suc b) (elim t as (λ is. Stop) [ true ↦ Stopped (p + 1) c | false ↦ elim more as (λ m. Stop) [ zero ↦ Budget (p + 1) c | suc m ↦ later tt ] ])
+      by_break : (0 < b → StopsFirst program input is_break (p + 1) b (stop program input is_break (p + 1) b)) → (c : Configuration) (more : ℕ) (t : Bool) → more ≡ b →
+          is_break (place_of c) ≡ t → at_step program input (p + 1) ≡ Stands c →
+          StopsFirst program input is_break p (suc b) (elim t as (λ is. Stop)
+          [ true ↦ Stopped (p + 1) c | false ↦ elim more as (λ m. Stop) [ zero ↦ Budget (p + 1) c | suc m ↦ later tt ] ])
       by_break go c more true n t e = next (Stands c) (Stopped (p + 1) c) e (inl (t, refl))
       by_break go c zero false n t e = next (Stands c) (Budget (p + 1) c) e (inr (t, subst (λ b. p + 1 ≡ p + suc b) n (last_one p), refl))
       by_break go c (suc m) false n t e = at_later p b (later tt) (subst (GoesPast is_break) (sym e) t) (go (subst (λ b. 0 < b) n (omega arith)))
 
-      by_standing : (0 < b → StopsFirst program input is_break (p + 1) b (stop program input is_break (p + 1) b)) → (s : Standing) → at_step program input (p + 1) ≡ s → StopsFirst program input is_break p (suc b) (stop_at is_break (p + 1) b s later)
+      by_standing : (0 < b → StopsFirst program input is_break (p + 1) b (stop program input is_break (p + 1) b)) → (s : Standing) → at_step program input (p + 1) ≡ s →
+          StopsFirst program input is_break p (suc b) (stop_at is_break (p + 1) b s later)
       by_standing go NotBegun e = absurd (step_begun program input (p + 1) (omega arith) e)
       by_standing go Nowhere e = next Nowhere NoStop e refl
       by_standing go (Ends ending steps output) e = next (Ends ending steps output) (AtEnd ending steps output) e refl

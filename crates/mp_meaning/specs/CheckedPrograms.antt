@@ -41,7 +41,8 @@ pub record IsVariableSlot (frame : List FrameSlot) (n : List ℕ) (v : Variable)
   pub of : slot.of ≡ v.of
 
 -- the slot of a parameter, which is the one of this number
-pub record IsParameterSlot (parameters : List FormalParameter) (frame : List FrameSlot) (n : List ℕ) (q : Parameter) : Type 0 where
+pub record IsParameterSlot (parameters : List FormalParameter) (frame : List FrameSlot) (n : List ℕ) (q : Parameter) :
+    Type 0 where
   pub number : ℕ
   pub parameter : FormalParameter
   pub found : variable_number frame n ≡ Some number
@@ -66,9 +67,11 @@ pub record IsResultSlot (frame : List FrameSlot) (t : TypeId) : Type 0 where
 pub record BlockFits (tables : List Table) (p : Program) (path : Path) (b : PlainTypedBlock) : Type 0 where
   pub parameters : BeginsWith (parameters_of tables path) b.frame
   pub variable : (n : List ℕ) (v : Variable) → declared_in tables path n ≡ Some (decl.Var path v) → IsVariableSlot b.frame n v
-  pub parameter : (n : List ℕ) (q : Parameter) → declared_in tables path n ≡ Some (decl.Param path q) → IsParameterSlot (parameters_of tables path) b.frame n q
+  pub parameter : (n : List ℕ) (q : Parameter) → declared_in tables path n ≡ Some (decl.Param path q) →
+      IsParameterSlot (parameters_of tables path) b.frame n q
   pub result : (t : TypeId) → (heading_of tables path).result ≡ Some t → IsResultSlot b.frame t
-  pub label : p.is_closed path ≡ false → (l : ℕ) → declared_in tables path (label_name l) ≡ Some (decl.Label path standing.Outermost) → is_found (from_label l b.statements) ≡ true
+  pub label : p.is_closed path ≡ false → (l : ℕ) → declared_in tables path (label_name l) ≡ Some
+      (decl.Label path standing.Outermost) → is_found (from_label l b.statements) ≡ true
   pub checked : p.is_closed path ≡ false → CheckedBlock tables b
 
 -- ---- record types
@@ -83,14 +86,16 @@ IsOrdinal tables t = (x : Shape) × (shape_of tables t ≡ Some x) × (sort_of (
 pub record RecordFits (tables : List Table) (r : RecordShape) : Type 0 where
   pub within : (i : ℕ) (s : Slot) (w : Within) → slice_get r.slots i ≡ Some s → s.within ≡ Some w → HasPart r w
   pub outer : (i : ℕ) (q : Part) (w : Within) → slice_get r.parts i ≡ Some q → q.within ≡ Some w → HasPart r w
-  pub tag : (i : ℕ) (q : Part) → slice_get r.parts i ≡ Some q → (s : Slot) × (t : TypeId) × (slice_get r.slots q.tag ≡ Some s) × (s.of ≡ Some t) × IsOrdinal tables t
+  pub tag : (i : ℕ) (q : Part) → slice_get r.parts i ≡ Some q → (s : Slot) × (t : TypeId) × (slice_get r.slots q.tag ≡ Some s) ×
+      (s.of ≡ Some t) × IsOrdinal tables t
 
 -- ---- programs
 
 pub record IsCheckedProgram (tables : List Table) (p : Program) : Type 0 where
   -- the program's own block is there, and that of each procedure and function
   pub whole : (b : PlainTypedBlock) × (block_of p [] ≡ Some b)
-  pub blocks : (path : Path) (n : Nested) → nested_at tables [] path ≡ Some n → (b : PlainTypedBlock) × (block_of p path ≡ Some b)
+  pub blocks : (path : Path) (n : Nested) → nested_at tables [] path ≡ Some n → (b : PlainTypedBlock) ×
+      (block_of p path ≡ Some b)
   pub fits : (path : Path) (b : PlainTypedBlock) → block_of p path ≡ Some b → BlockFits tables p path b
   -- the forms of variables are those of their types' shapes
   pub forms : (t : TypeId) → p.form t ≡ form_of_shape p.form (shape_of tables t)

@@ -1,5 +1,5 @@
 -- Runs of statements with two causes of an ending: the first in the order of evaluation counts. And the places of faults.
-use Rattle.std.specs.Prelude.{◌≡◌, ℕ, Bool, true, false, List, [], ◌∷◌, Some, None, codes, pos, replicate, nat_eq}
+use Rattle.std.specs.Prelude.{◌≡◌, ℕ, Bool, true, false, List, [], ◌∷◌, Option, Some, None, codes, pos, replicate, nat_eq}
 use Rattle.mp_ast.specs.declared.statements.Direction.TheVariants as direction
 use Rattle.mp_tables.specs.declared.types.TypeId.{TypeId}
 use Rattle.mp_tables.specs.declared.types.TypeId.TheVariants as type
@@ -15,13 +15,17 @@ use Rattle.mp_tables.specs.declared.typed_statements.ReadSort.TheVariants as rea
 use Rattle.mp_tables.specs.declared.typed_statements.WriteSort.TheVariants as writes
 use Rattle.mp_tables.specs.PlainTypedExpressions.{PlainTypedAccess, PlainTypedExpr, PlainTypedMembers}
 use Rattle.mp_tables.specs.PlainTypedExpressions as expr
-use Rattle.mp_tables.specs.PlainTypedStatements.{PlainTypedBlock, PlainTypedStatement, PlainTypedStatements, PlainWriting}
+use Rattle.mp_tables.specs.PlainTypedStatements.{PlainTypedBlock, PlainTypedStatement, PlainTypedStatements, PlainWriting, PlainPacking}
 use Rattle.mp_tables.specs.PlainTypedStatements as tree
 use Rattle.mp_meaning.specs.Names.{Path, same_path}
 use Rattle.mp_meaning.specs.Numbers.{least_integer, maxint}
 use Rattle.mp_meaning.specs.Forms.{Form, OneCell, FileForm, ArrayForm, RecordForm, Beside, NoForms}
 use Rattle.mp_meaning.specs.Programs.{Program}
 use Rattle.mp_meaning.specs.Configurations.{Configuration}
+use Rattle.mp_meaning.specs.Values.{Reference, Undefined, cleared}
+use Rattle.mp_meaning.specs.Outcomes.{Outcome, Fault}
+use Rattle.mp_meaning.specs.FileCalls.{write_bytes}
+use Rattle.mp_meaning.specs.RequiredProcedures.{make, pack, unpack}
 use Rattle.mp_meaning.specs.Calls.{must_have_room}
 use Rattle.mp_meaning.specs.Steps.{at_step, before_program, Standing, Ends, MetHole}
 use Rattle.mp_meaning.specs.LimitExamples.{limit_of, someone}
@@ -65,7 +69,8 @@ abbrev pub OperandsExample : Type 0
 OperandsExample =
     (set_to (two (load i) operator.Add no_quotient) ≡ faulted 9 41 2 []) ×
     (set_to (two no_quotient operator.Add (load i)) ≡ faulted 2 41 2 []) ×
-    (set_to (two (compare (number 1) relation.Greater (number 2)) operator.And (compare no_quotient relation.Equal (number 1))) ≡ faulted 2 41 2 [])
+    (set_to (two (compare (number 1) relation.Greater (number 2)) operator.And
+    (compare no_quotient relation.Equal (number 1))) ≡ faulted 2 41 2 [])
 
 abbrev in_set : PlainTypedMembers → Standing
 in_set members = set_to (expr.In (number 1) (expr.Set members))
@@ -77,32 +82,44 @@ MembersExample =
     (in_set (expr.Member no_quotient (expr.Member (number 300) expr.NoMembers)) ≡ faulted 2 41 2 []) ×
     (set_to (expr.In (number 300) (expr.Set (expr.MemberRange (number 300) (number 1) expr.NoMembers))) ≡ ended 2 [])
 
--- for i := 1 div 0 to i: the first value comes first
+-- for i := first to last do;
+abbrev for_loop : (at : ℕ) → (first last : PlainTypedExpr) → PlainTypedStatement
+for_loop at first last = tree.For at (record {
+  variable = located (codes "i") 0 0;
+  low = least_integer;
+  high = maxint;
+  first = first;
+  direction = direction.To;
+  last = last;
+}) (tree.Empty 50)
+
+-- for i := 1 div 0 to i: the first value comes first; i := 3; for i := 1 to i do makes three turns, since both values are
+-- evaluated before the variable is set
 abbrev pub ForFirstExample : Type 0
 ForFirstExample =
-    of_one (tree.For 41 (record { variable = located (codes "i") 0 0; low = least_integer; high = maxint; first = no_quotient; direction = direction.To; last = load i }) (tree.Empty 50)) ≡
-    faulted 2 41 2 []
+    (of_one (for_loop 41 no_quotient (load i)) ≡ faulted 2 41 2 []) ×
+    (run_of [] (assign 41 i (number 3) then last (for_loop 45 (number 1) (load i))) ≡ ended 6 [])
 
 -- for i := 1 to 2 do; i := i: the control variable is undefined after the last turn
 abbrev pub AfterForExample : Type 0
 AfterForExample =
-    run_of [] (
-    tree.For 41 (record { variable = located (codes "i") 0 0; low = least_integer; high = maxint; first = number 1; direction = direction.To; last = number 2 }) (tree.Empty 48) then
-    last (assign 49 i (load i))) ≡
-    faulted 9 49 5 []
+    run_of [] (for_loop 41 (number 1) (number 2) then last (assign 51 i (load i))) ≡ faulted 9 51 5 []
 
 -- i := 1; while 1 div i > 0 do i := i - 1: the test of the second turn stands at the loop
 abbrev pub LaterTestExample : Type 0
 LaterTestExample =
     run_of [] (
     assign 41 i (number 1) then
-    last (tree.While 45 (compare (two (number 1) operator.Div (load i)) relation.Greater (number 0)) (assign 53 i (two (load i) operator.Subtract (number 1))))) ≡
+    last (tree.While 45 (compare (two (number 1) operator.Div (load i)) relation.Greater (number 0))
+    (assign 53 i (two (load i) operator.Subtract (number 1))))) ≡
     faulted 2 45 4 []
 
 -- ---- read and write
 
 abbrev read_into : PlainTypedAccess → PlainTypedAccess → Check → PlainTypedStatement
-read_into from a test = tree.Required 41 (tree.Read false from (record { of = reads.Integer; target = record { access = a; check = test; tagging = None } } ∷ []))
+read_into from a test =
+    tree.Required 41 (tree.Read false from (record
+    { of = reads.Integer; target = record { access = a; check = test; tagging = None } } ∷ []))
 
 -- read(f, a[4]) is fault 4 before 12; of input, x is no number, 9999999999 too large, and 9 no value of 1..3
 abbrev pub ReadOrderExample : Type 0
@@ -116,7 +133,13 @@ abbrev write_to : PlainWriting → Standing
 write_to w = of_one (tree.Required 41 (tree.Write false f (w ∷ [])))
 
 abbrev z_of_width : ℕ → PlainWriting
-z_of_width n = record { of = writes.Text 2; value = expr.Load (sort.Block 2) (root.Own (located (codes "z") 0 6)) expr.NoSelectors; width = Some (number n) }
+z_of_width n =
+    record {
+      of = writes.Text 2;
+      value = expr.Load (sort.Block 2) (root.Own (located (codes "z") 0 6)) expr.NoSelectors;
+      width =
+          Some (number n);
+    }
 
 -- f is closed: the value comes before the width, this before an undefined character, this before a width that is too small,
 -- and all before the state of the file
@@ -131,8 +154,10 @@ WriteOrderExample =
 -- rewrite(f); put(f): the buffer is undefined; get(f) and eoln(f) of a file in writing are of the wrong state
 abbrev pub PutOrderExample : Type 0
 PutOrderExample =
-    (run_of [] (tree.Required 41 (tree.File procedure.Rewrite f) then last (tree.Required 46 (tree.File procedure.Put f))) ≡ faulted 9 46 3 []) ×
-    (run_of [] (tree.Required 41 (tree.File procedure.Rewrite f) then last (tree.Required 46 (tree.File procedure.Get f))) ≡ faulted 12 46 3 [])
+    (run_of [] (tree.Required 41 (tree.File procedure.Rewrite f) then last
+    (tree.Required 46 (tree.File procedure.Put f))) ≡ faulted 9 46 3 []) ×
+    (run_of [] (tree.Required 41 (tree.File procedure.Rewrite f) then last
+    (tree.Required 46 (tree.File procedure.Get f))) ≡ faulted 12 46 3 [])
 
 -- ---- program p; var q: ^r; begin new(q); with q^ do begin dispose(q); .. end end, where r is record s: 1..3 end
 
@@ -147,7 +172,11 @@ abbrev q_value : PlainTypedExpr
 q_value = expr.Load sort.Pointer q.root q.selectors
 
 abbrev in_record : PlainTypedAccess
-in_record = record { root = root.Opened 0; selectors = expr.Field (record { name = codes "s"; slot = 0; offset = 0; guards = [] }) expr.NoSelectors }
+in_record = record {
+  root = root.Opened 0;
+  selectors = expr.Field
+      (record { name = codes "s"; slot = 0; offset = 0; guards = [] }) expr.NoSelectors;
+}
 
 abbrev dispose_q : ℕ → PlainTypedStatement
 dispose_q at = tree.Required at (tree.Dispose q_value)
@@ -185,7 +214,8 @@ large = inside [] (codes "q")
 abbrev calls_large : (closed : Bool) → (n : ℕ) → Program
 calls_large closed n = record (of_blocks (
     block [] [] 20 (last (call 21 large (expr.Value (number n) (check.Range (pos 1) (pos 3)) expr.NoActuals))) ∷
-    block large (value_parameter (codes "n") ∷ record (slot (codes "a") kind.Variable (type.Own large 1)) { cells = 1000000 } ∷ []) 0 (last (tree.Empty 1)) ∷ [])) {
+    block large (value_parameter (codes "n") ∷ record (slot (codes "a") kind.Variable (type.Own large 1)) { cells = 1000000 } ∷
+    []) 0 (last (tree.Empty 1)) ∷ [])) {
       is_closed = λ path. elim closed as (λ c. Bool) [ true ↦ same_path large path | false ↦ false ];
       form = λ id. elim id as (λ t. Form) [
         | type.Integer ↦ OneCell
@@ -207,4 +237,44 @@ with_live n = record (before_program [] 9) { activations = replicate n someone }
 
 -- where both limits are passed, limit 1 comes first
 abbrev pub LimitOrderExample : Type 0
-LimitOrderExample = (limit_of (must_have_room 0 1000000 (with_live 4096)) ≡ Some 1) × (limit_of (must_have_room 0 1000000 (with_live 4095)) ≡ Some 2)
+LimitOrderExample = (limit_of (must_have_room 0 1000000 (with_live 4096)) ≡ Some 1) ×
+    (limit_of (must_have_room 0 1000000 (with_live 4095)) ≡ Some 2)
+
+-- ---- single actions, where a run would be long
+
+abbrev start : Configuration
+start = before_program [] 9
+
+abbrev fault_of : Outcome (Unit {0}) → Option ℕ
+fault_of (Fault number at c) = Some number
+fault_of _ = None
+
+-- a variable of an activation that is not there, and one of the standard files, or in it
+abbrev gone : Reference
+gone = record { root = 1; way = []; type = Undefined }
+
+abbrev standard : (way : List ℕ) → Reference
+standard way = record { root = 0; way = way; type = cleared (start.roots 0).value }
+
+-- `new` reads its variable before it counts the cells
+abbrev pub NewOrderExample : Type 0
+NewOrderExample =
+    (fault_of (make 0 OneCell 1000001 gone start) ≡ Some 8) ×
+    (limit_of (make 0 OneCell 1000001 (standard (1 ∷ 1 ∷ [])) start) ≡ Some 2)
+
+-- a byte too many for a file that is not in writing is fault 12, and for `output` limit 4
+abbrev pub ChargeOrderExample : Type 0
+ChargeOrderExample =
+    (fault_of (write_bytes 0 (standard (0 ∷ [])) (120 ∷ []) (record start { written = 16777216 })) ≡ Some 12) ×
+    (limit_of (write_bytes 0 (standard (1 ∷ [])) (120 ∷ []) (record start { written = 16777216 })) ≡ Some 4)
+
+abbrev packing : PlainPacking
+packing = record { unpacked = i; index = number 1; packed = i; low = pos 1; high = pos 3; count = 2; size = 1 }
+
+-- the index is tested before the arrays are read
+abbrev pub PackOrderExample : Type 0
+PackOrderExample =
+    (fault_of (pack 0 packing gone gone (pos 3) start) ≡ Some 4) ×
+    (fault_of (pack 0 packing gone gone (pos 2) start) ≡ Some 8) ×
+    (fault_of (unpack 0 packing gone gone (pos 3) start) ≡ Some 4) ×
+    (fault_of (unpack 0 packing gone gone (pos 2) start) ≡ Some 8)

@@ -49,7 +49,8 @@ by_variable = of_blocks (
     assign 22 (own i 0 0) (number 1) then
     call 26 taking (with_variables (own i 0 0 ∷ [])) then
     last (write 31 (integer_of_width (load (own i 0 0)) (Some (number 1)) ∷ []))) ∷
-    block taking (variable_parameter n ∷ []) 0 (last (assign 1 (through n 1 0) (two (load (through n 1 0)) operator.Add (number 1)))) ∷ [])
+    block taking (variable_parameter n ∷ []) 0
+    (last (assign 1 (through n 1 0) (two (load (through n 1 0)) operator.Add (number 1)))) ∷ [])
 
 -- a value parameter is a variable of its own, and a variable parameter is that of the caller
 abbrev pub ParameterKindsExample : Type 0
@@ -136,7 +137,8 @@ told = of_blocks (
     block factorial (value_parameter n ∷ result f ∷ []) 0 (
     last (tree.IfElse 1 (compare (load (own n 1 0)) relation.Less (number 2))
     (assign 6 (result_of f 1 1) (number 1))
-    (assign 10 (result_of f 1 1) (two (load (own n 1 0)) operator.Multiply (apply factorial (with_values (two (load (own n 1 0)) operator.Subtract (number 1) ∷ []))))))) ∷ [])
+    (assign 10 (result_of f 1 1) (two (load (own n 1 0)) operator.Multiply
+    (apply factorial (with_values (two (load (own n 1 0)) operator.Subtract (number 1) ∷ []))))))) ∷ [])
 
 abbrev places : Standing → List Place
 places (Stands c) = chain c

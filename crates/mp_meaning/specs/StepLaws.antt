@@ -19,7 +19,8 @@ GoesPast is_break Nowhere = ⊥
 abbrev pub IsStopAt : (is_break : Place → Bool) → (step last : ℕ) → Standing → Stop → Type 0
 IsStopAt is_break step last (Ends ending steps output) s = s ≡ AtEnd ending steps output
 IsStopAt is_break step last (Stands c) s =
-    ((is_break (place_of c) ≡ true) × (s ≡ Stopped step c)) ⊎ ((is_break (place_of c) ≡ false) × (step ≡ last) × (s ≡ Budget step c))
+    ((is_break (place_of c) ≡ true) × (s ≡ Stopped step c)) ⊎
+    ((is_break (place_of c) ≡ false) × (step ≡ last) × (s ≡ Budget step c))
 IsStopAt is_break step last NotBegun s = ⊥
 IsStopAt is_break step last Nowhere s = s ≡ NoStop
 
@@ -33,9 +34,11 @@ pub record StopsFirst (program : Program) (input : List ℕ) (is_break : Place �
 
 -- So it is with `stop`,
 abbrev pub StopIsFirst : Type 0
-StopIsFirst = (program : Program) (input : List ℕ) (is_break : Place → Bool) (p b : ℕ) → 0 < b → StopsFirst program input is_break p b (stop program input is_break p b)
+StopIsFirst = (program : Program) (input : List ℕ) (is_break : Place → Bool) (p b : ℕ) → 0 < b →
+    StopsFirst program input is_break p b (stop program input is_break p b)
 
 -- and with nothing else.
 abbrev pub NoOtherStop : Type 0
 NoOtherStop =
-    (program : Program) (input : List ℕ) (is_break : Place → Bool) (p b : ℕ) (s : Stop) → 0 < b → StopsFirst program input is_break p b s → s ≡ stop program input is_break p b
+    (program : Program) (input : List ℕ) (is_break : Place → Bool) (p b : ℕ) (s : Stop) → 0 < b →
+    StopsFirst program input is_break p b s → s ≡ stop program input is_break p b

@@ -1,4 +1,4 @@
-use Rattle.mp_meaning.proofs.RunExamples.{operands_run, members_run, for_first_run, after_for_run, later_test_run, read_order_run, write_order_run, put_order_run, disposed_order_run, dispose_order_run, hole_order_run, limit_order_run}
+use Rattle.mp_meaning.proofs.RunExamples.{operands_run, members_run, for_first_run, after_for_run, later_test_run, read_order_run, write_order_run, put_order_run, disposed_order_run, dispose_order_run, hole_order_run, limit_order_run, new_order_run, charge_order_run, pack_order_run}
 use Rattle.mp_meaning.proofs.examples.orders_example.Goals as goal
 
 pub returns-clause-operands_run : goal.returns-clause-operands_run
@@ -36,3 +36,12 @@ returns-clause-hole_order_run c = hole_order_run
 
 pub returns-clause-limit_order_run : goal.returns-clause-limit_order_run
 returns-clause-limit_order_run c = limit_order_run
+
+pub returns-clause-new_order_run : goal.returns-clause-new_order_run
+returns-clause-new_order_run c = new_order_run
+
+pub returns-clause-charge_order_run : goal.returns-clause-charge_order_run
+returns-clause-charge_order_run c = charge_order_run
+
+pub returns-clause-pack_order_run : goal.returns-clause-pack_order_run
+returns-clause-pack_order_run c = pack_order_run
