@@ -17,15 +17,19 @@ pub from_front : {X : Type 0} (t : X → Bool) (i k : ℕ) (xs ys : List X) → 
 from_front t i k [] ys e = none_some e
 from_front t i k (x ∷ xs) ys e = by (t x) e (from_front t (i + 1) k xs ys)
   where
-    by : (b : Bool) → cond b (Some i) (position_from t (i + 1) xs) ≡ Some k → (position_from t (i + 1) xs ≡ Some k → position_from t (i + 1) (xs ++ ys) ≡ Some k) → cond b (Some i) (position_from t (i + 1) (xs ++ ys)) ≡ Some k
+    by : (b : Bool) → cond b (Some i) (position_from t (i + 1) xs) ≡ Some k → (position_from t (i + 1) xs ≡ Some k → position_from t (i + 1) (xs ++ ys) ≡ Some k) →
+        cond b (Some i) (position_from t (i + 1) (xs ++ ys)) ≡ Some k
     by true p f = p
     by false p f = f p
 
-pub from_seam : {X : Type 0} (t : X → Bool) (i : ℕ) (xs : List X) (y : X) (ys : List X) → position_from t i xs ≡ None → t y ≡ true → position_from t i (xs ++ y ∷ ys) ≡ Some (i + length xs)
+pub from_seam : {X : Type 0} (t : X → Bool) (i : ℕ) (xs : List X) (y : X) (ys : List X) → position_from t i xs ≡ None → t y ≡ true →
+    position_from t i (xs ++ y ∷ ys) ≡ Some (i + length xs)
 from_seam t i [] y ys e h = ap (λ b. cond b (Some i) (position_from t (i + 1) ys)) h ∙ ap Some (omega arith)
 from_seam t i (x ∷ xs) y ys e h = by (t x) e (from_seam t (i + 1) xs y ys)
   where
-    by : (b : Bool) → cond b (Some i) (position_from t (i + 1) xs) ≡ None → (position_from t (i + 1) xs ≡ None → t y ≡ true → position_from t (i + 1) (xs ++ y ∷ ys) ≡ Some (i + 1 + length xs)) → cond b (Some i) (position_from t (i + 1) (xs ++ y ∷ ys)) ≡ Some (i + suc (length xs))
+    by : (b : Bool) → cond b (Some i) (position_from t (i + 1) xs) ≡ None →
+        (position_from t (i + 1) xs ≡ None → t y ≡ true → position_from t (i + 1) (xs ++ y ∷ ys) ≡ Some (i + 1 + length xs)) →
+        cond b (Some i) (position_from t (i + 1) (xs ++ y ∷ ys)) ≡ Some (i + suc (length xs))
     by true p f = some_none p
     by false p f = f p h ∙ ap Some (omega arith)
 
@@ -33,7 +37,8 @@ pub from_none : {X : Type 0} (t : X → Bool) (i : ℕ) (xs : List X) (y : X) �
 from_none t i [] y e h = ap (λ b. cond b (Some i) None) h
 from_none t i (x ∷ xs) y e h = by (t x) e (from_none t (i + 1) xs y)
   where
-    by : (b : Bool) → cond b (Some i) (position_from t (i + 1) xs) ≡ None → (position_from t (i + 1) xs ≡ None → t y ≡ false → position_from t (i + 1) (xs ++ y ∷ []) ≡ None) → cond b (Some i) (position_from t (i + 1) (xs ++ y ∷ [])) ≡ None
+    by : (b : Bool) → cond b (Some i) (position_from t (i + 1) xs) ≡ None → (position_from t (i + 1) xs ≡ None → t y ≡ false → position_from t (i + 1) (xs ++ y ∷ []) ≡ None) →
+        cond b (Some i) (position_from t (i + 1) (xs ++ y ∷ [])) ≡ None
     by true p f = some_none p
     by false p f = f p h
 
@@ -63,7 +68,8 @@ equal m n e = (bytes_eq-Decides m n).0 e
 pub equal_is : (m n : List ℕ) → m ≡ n → bytes_eq m n ≡ true
 equal_is m n e = (bytes_eq-Decides m n).1 e
 
-pub known_else : (n : List ℕ) (p : List ℕ × Entry) (o r : Option Entry) (z : Bool) → bytes_eq n p.0 ≡ z → (bytes_eq n p.0 ≡ true → is_some o ≡ true) → or_else o r ≡ or_else o (cond z (Some p.1) r)
+pub known_else : (n : List ℕ) (p : List ℕ × Entry) (o r : Option Entry) (z : Bool) → bytes_eq n p.0 ≡ z → (bytes_eq n p.0 ≡ true → is_some o ≡ true) →
+    or_else o r ≡ or_else o (cond z (Some p.1) r)
 known_else n p o r false e f = refl
 known_else n p (Some x) r true e f = refl
 known_else n p None r true e f = false_true (f e)
@@ -91,12 +97,15 @@ lookup_filled n m at d (p ∷ ps) = by (bytes_eq m p.0) (nat_eq p.1.at at) (byte
     E : Entry
     E = record { decl = d; at = at; last = p.1.last }
 
-    by : (x y z : Bool) → bytes_eq m p.0 ≡ x → nat_eq p.1.at at ≡ y → bytes_eq n p.0 ≡ z → lookup (bytes_eq n) (filled m at d ps) ≡ option_map (refilled (bytes_eq m n) at d) (lookup (bytes_eq n) ps) →
-        lookup (bytes_eq n) (cond (x && y) (m, record { decl = d; at = at; last = p.1.last }) p ∷ filled m at d ps) ≡ option_map (refilled (bytes_eq m n) at d) (cond z (Some p.1) (lookup (bytes_eq n) ps))
+    by : (x y z : Bool) → bytes_eq m p.0 ≡ x → nat_eq p.1.at at ≡ y → bytes_eq n p.0 ≡ z →
+        lookup (bytes_eq n) (filled m at d ps) ≡ option_map (refilled (bytes_eq m n) at d) (lookup (bytes_eq n) ps) →
+        lookup (bytes_eq n) (cond (x && y) (m, record { decl = d; at = at; last = p.1.last }) p ∷ filled m at d ps) ≡ option_map (refilled (bytes_eq m n) at d)
+        (cond z (Some p.1) (lookup (bytes_eq n) ps))
     by true true true hx hy hz f =
         ap (λ b. cond b (Some E) (lookup (bytes_eq n) (filled m at d ps))) (equal_is n m (equal n p.0 hz ∙ sym (equal m p.0 hx)))
         ∙ ap Some (sym (ap (λ b. cond (b && nat_eq p.1.at at) E p.1) (equal_is m n (equal m p.0 hx ∙ sym (equal n p.0 hz))) ∙ ap (λ b. cond b E p.1) hy))
-    by true true false hx hy hz f = ap (λ k. cond (bytes_eq n k) (Some E) (lookup (bytes_eq n) (filled m at d ps))) (equal m p.0 hx) ∙ ap (λ b. cond b (Some E) (lookup (bytes_eq n) (filled m at d ps))) hz ∙ f
+    by true true false hx hy hz f = ap (λ k. cond (bytes_eq n k) (Some E) (lookup (bytes_eq n) (filled m at d ps))) (equal m p.0 hx)
+        ∙ ap (λ b. cond b (Some E) (lookup (bytes_eq n) (filled m at d ps))) hz ∙ f
     by true false true hx hy hz f =
         ap (λ b. cond b (Some p.1) (lookup (bytes_eq n) (filled m at d ps))) hz
         ∙ ap Some (sym (ap (λ b. cond (b && nat_eq p.1.at at) E p.1) (equal_is m n (equal m p.0 hx ∙ sym (equal n p.0 hz))) ∙ ap (λ b. cond b E p.1) hy))

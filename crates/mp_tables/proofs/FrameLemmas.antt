@@ -45,7 +45,12 @@ use Rattle.mp_tables.proofs.FoundNames.{position_seam, position_none, lookup_app
 use Rattle.mp_tables.proofs.SlotLemmas.{is_named, variable_slot_more, parameter_slot_more, result_slot_more, Begins, begins_on, variables_of, InVars, OkPoint, keyed_found, program_keyed, LabelIs, later_found, declared_keyed, ParameterSlots, slots_made, begins_at, no_result, differ, parameter_in, variable_in, parameter_found, Framed, Variables, Labelled, label_in, HasErrors, errors_kept, framed_kept, variables_kept, labelled_kept}
 
 module _ (b : Declaring) where
-  labelled_step : (k : Known) (t : Option TypeId) (cells : ℕ) (x : Identifier) → Labelled b k → Labelled b (record k { names = filled x.name x.at (decl.Var b.path (record { of = t; offset = frame_cells k.frame; control = is_control b x.name })) k.names; frame = k.frame ++ record { name = x.name; kind = kind.Variable; of = t; offset = frame_cells k.frame; cells = cells } ∷ [] })
+  labelled_step : (k : Known) (t : Option TypeId) (cells : ℕ) (x : Identifier) → Labelled b k →
+      Labelled b
+      (record k {
+        names = filled x.name x.at (decl.Var b.path (record { of = t; offset = frame_cells k.frame; control = is_control b x.name })) k.names;
+        frame = k.frame ++ record { name = x.name; kind = kind.Variable; of = t; offset = frame_cells k.frame; cells = cells } ∷ [];
+      })
   labelled_step k t cells x i =
       record { labels = λ n e q s l p. old n e q s p (found_before n x.name x.at made (lookup (bytes_eq n) k.names) e (sym (lookup_filled n x.name x.at made k.names) ∙ l)) }
     where
@@ -53,7 +58,8 @@ module _ (b : Declaring) where
       made = decl.Var b.path (record { of = t; offset = frame_cells k.frame; control = is_control b x.name })
 
       old : (n : List ℕ) (e : Entry) (q : List PathStep) (s : LabelStanding) → e.decl ≡ decl.Label q s →
-          ((x.name ≡ n) × (e.decl ≡ made) × (e.at ≡ x.at) × (y : Entry) × (lookup (bytes_eq n) k.names ≡ Some y) × (y.at ≡ x.at)) ⊎ ((lookup (bytes_eq n) k.names ≡ Some e) × ((x.name ≡ n) × (e.at ≡ x.at) → ⊥)) → LabelIs b b.own.labels n (decl.Label q s)
+          ((x.name ≡ n) × (e.decl ≡ made) × (e.at ≡ x.at) × (y : Entry) × (lookup (bytes_eq n) k.names ≡ Some y) × (y.at ≡ x.at))
+          ⊎ ((lookup (bytes_eq n) k.names ≡ Some e) × ((x.name ≡ n) × (e.at ≡ x.at) → ⊥)) → LabelIs b b.own.labels n (decl.Label q s)
       old n e q s p (inl f) = false_true (ap label_in (sym f.1 ∙ p))
       old n e q s p (inr f) = i.labels n e q s f.0 p
 
@@ -77,7 +83,10 @@ module _ (b : Declaring) where
     variable_part_stays (Section xs d more) =
         denote_stays a b.path I kept None d and λ t. typed_if_stays a b.path I kept t and λ s. names_stay t (size_of s) xs and λ u. variable_part_stays more
 
-    behind_labels : Stays a I (each (constant_definition b) b.own.constants >> (each (type_definition b) b.own.types >> (domain_types b >> (variable_part b b.own.variables >> (routine_declarations b [] b.own.declarations >> program_heading b.own.program)))))
+    behind_labels : Stays a I
+        (each (constant_definition b) b.own.constants >>
+        (each (type_definition b) b.own.types >>
+        (domain_types b >> (variable_part b b.own.variables >> (routine_declarations b [] b.own.declarations >> program_heading b.own.program)))))
     behind_labels =
         constants_part_stays a b.path I kept b.own b.heading
         and λ u. types_stay a b.path I kept b.own b.heading
@@ -87,7 +96,11 @@ module _ (b : Declaring) where
         and λ u. program_heading_stays a b.path I kept b.own b.heading b.own.program
 
     -- all that follows the names of the block
-    pub definitions_stay : Stays a I (by_rule (labels [] b.own.labels) >> (each (constant_definition b) b.own.constants >> (each (type_definition b) b.own.types >> (domain_types b >> (variable_part b b.own.variables >> (routine_declarations b [] b.own.declarations >> program_heading b.own.program))))))
+    pub definitions_stay : Stays a I
+        (by_rule (labels [] b.own.labels) >>
+        (each (constant_definition b) b.own.constants >>
+        (each (type_definition b) b.own.types >>
+        (domain_types b >> (variable_part b b.own.variables >> (routine_declarations b [] b.own.declarations >> program_heading b.own.program))))))
     definitions_stay =
         labels_stay a b.path I kept b.own b.heading and λ u. behind_labels
 
@@ -97,19 +110,25 @@ module _ (b : Declaring) where
         begins = begins_on (parameters_in b.heading.formals) k.frame (slot_of k t cells x) refl i.begins;
         result = λ u e. result_slot_more k.frame (slot_of k t cells x) u (i.result u e);
         parameter = λ n e q l p. parameter_slot_more (parameters_in b.heading.formals) k.frame (slot_of k t cells x) n q
-            (old n e q p (found_before n x.name x.at (decl.Var b.path (made_of k t x)) (lookup (bytes_eq n) k.names) e (sym (lookup_filled n x.name x.at (decl.Var b.path (made_of k t x)) k.names) ∙ l)));
+            (old n e q p
+            (found_before n x.name x.at (decl.Var b.path (made_of k t x)) (lookup (bytes_eq n) k.names) e
+            (sym (lookup_filled n x.name x.at (decl.Var b.path (made_of k t x)) k.names) ∙ l)));
       }
     where
       old : (n : List ℕ) (e : Entry) (q : Parameter) → e.decl ≡ decl.Param b.path q →
-          ((x.name ≡ n) × (e.decl ≡ decl.Var b.path (made_of k t x)) × (e.at ≡ x.at) × (y : Entry) × (lookup (bytes_eq n) k.names ≡ Some y) × (y.at ≡ x.at)) ⊎ ((lookup (bytes_eq n) k.names ≡ Some e) × ((x.name ≡ n) × (e.at ≡ x.at) → ⊥)) → IsParameterSlot (parameters_in b.heading.formals) k.frame n q
+          ((x.name ≡ n) × (e.decl ≡ decl.Var b.path (made_of k t x)) × (e.at ≡ x.at) × (y : Entry) × (lookup (bytes_eq n) k.names ≡ Some y) × (y.at ≡ x.at))
+          ⊎ ((lookup (bytes_eq n) k.names ≡ Some e) × ((x.name ≡ n) × (e.at ≡ x.at) → ⊥)) → IsParameterSlot (parameters_in b.heading.formals) k.frame n q
       old n e q p (inl f) = none_some (ap parameter_in (sym f.1 ∙ p))
       old n e q p (inr f) = i.parameter n e q f.0 p
 
   -- a variable whose name is new
-  variable_step : (k : Known) (t : Option TypeId) (cells : ℕ) (x : Identifier) (rest : List Identifier) (known : Points) → is_known x.name known ≡ false → Variables b.path (x ∷ rest) known k → Variables b.path rest (known ++ variable_point b x ∷ []) (with_variable k t cells x)
+  variable_step : (k : Known) (t : Option TypeId) (cells : ℕ) (x : Identifier) (rest : List Identifier) (known : Points) → is_known x.name known ≡ false →
+      Variables b.path (x ∷ rest) known k → Variables b.path rest (known ++ variable_point b x ∷ []) (with_variable k t cells x)
   variable_step k t cells x rest known new i =
       record {
-        slots = λ n e v l p. made n e v p (found_before n x.name x.at (decl.Var b.path (made_of k t x)) (lookup (bytes_eq n) k.names) e (sym (lookup_filled n x.name x.at (decl.Var b.path (made_of k t x)) k.names) ∙ l));
+        slots = λ n e v l p. made n e v p
+            (found_before n x.name x.at (decl.Var b.path (made_of k t x)) (lookup (bytes_eq n) k.names) e
+            (sym (lookup_filled n x.name x.at (decl.Var b.path (made_of k t x)) k.names) ∙ l));
         free = λ n u. position_none (is_named n) k.frame (slot_of k t cells x) (i.free n (before n u)) (ap (λ y. y && true) (behind n u));
       }
     where
@@ -118,7 +137,9 @@ module _ (b : Declaring) where
       is_some_or (Some y) r e = true_false e
 
       both : (n : List ℕ) → is_known n (known ++ variable_point b x ∷ []) ≡ false → (is_known n known ≡ false) × (is_some (lookup (bytes_eq n) (variable_point b x ∷ [])) ≡ false)
-      both n u = is_some_or (lookup (bytes_eq n) known) (lookup (bytes_eq n) (variable_point b x ∷ [])) (ap is_some (sym (lookup_append (bytes_eq n) known (variable_point b x ∷ []))) ∙ u)
+      both n u =
+          is_some_or (lookup (bytes_eq n) known) (lookup (bytes_eq n) (variable_point b x ∷ [])) (ap is_some (sym (lookup_append (bytes_eq n) known (variable_point b x ∷ [])))
+          ∙ u)
 
       before : (n : List ℕ) → is_known n (known ++ variable_point b x ∷ []) ≡ false → is_known n known ≡ false
       before n u = (both n u).0
@@ -131,14 +152,16 @@ module _ (b : Declaring) where
       behind n u = differ n x.name (test (bytes_eq n x.name) (both n u).1)
 
       made : (n : List ℕ) (e : Entry) (v : Variable) → e.decl ≡ decl.Var b.path v →
-          ((x.name ≡ n) × (e.decl ≡ decl.Var b.path (made_of k t x)) × (e.at ≡ x.at) × (y : Entry) × (lookup (bytes_eq n) k.names ≡ Some y) × (y.at ≡ x.at)) ⊎ ((lookup (bytes_eq n) k.names ≡ Some e) × ((x.name ≡ n) × (e.at ≡ x.at) → ⊥)) →
+          ((x.name ≡ n) × (e.decl ≡ decl.Var b.path (made_of k t x)) × (e.at ≡ x.at) × (y : Entry) × (lookup (bytes_eq n) k.names ≡ Some y) × (y.at ≡ x.at))
+          ⊎ ((lookup (bytes_eq n) k.names ≡ Some e) × ((x.name ≡ n) × (e.at ≡ x.at) → ⊥)) →
           InVars rest n e.at ⊎ IsVariableSlot (k.frame ++ slot_of k t cells x ∷ []) n v
       made n e v p (inl f) =
           let same : made_of k t x ≡ v = some_inj (ap variable_in (sym f.1 ∙ p)) in
           inr (record {
             number = length k.frame;
             slot = slot_of k t cells x;
-            found = position_seam (is_named n) k.frame (slot_of k t cells x) [] (i.free n (subst (λ m. is_known m known ≡ false) f.0 new)) (ap (λ y. y && true) (equal_is x.name n f.0));
+            found = position_seam (is_named n) k.frame (slot_of k t cells x) [] (i.free n (subst (λ m. is_known m known ≡ false) f.0 new))
+                (ap (λ y. y && true) (equal_is x.name n f.0));
             is = slice_get_seam k.frame (slot_of k t cells x) [];
             of_kind = refl;
             of = ap (λ y. y.of) same;
@@ -161,7 +184,8 @@ all_new : (known ps : Points) → repeated known ps ≡ [] → AllNew known ps
 all_new known [] e = tt
 all_new known (p ∷ ps) e = by (is_known p.0 known) refl e (all_new (known ++ p ∷ []) ps)
   where
-    by : (x : Bool) → is_known p.0 known ≡ x → cond x (p.1.at ∷ []) [] ++ repeated (cond x known (known ++ (p.0, p.1) ∷ [])) ps ≡ [] → (repeated (known ++ p ∷ []) ps ≡ [] → AllNew (known ++ p ∷ []) ps) →
+    by : (x : Bool) → is_known p.0 known ≡ x → cond x (p.1.at ∷ []) [] ++ repeated (cond x known (known ++ (p.0, p.1) ∷ [])) ps ≡ [] →
+        (repeated (known ++ p ∷ []) ps ≡ [] → AllNew (known ++ p ∷ []) ps) →
         (is_known p.0 known ≡ false) × AllNew (known ++ p ∷ []) ps
     by true q h f = absurd (let n : ⊥ = cc in n)
     by false q h f = (q, f h)
@@ -185,13 +209,15 @@ variables_wider path rest known more k i = record { slots = i.slots; free = λ n
 -- ---- the variable part
 
 module _ (a : Answers) (b : Declaring) where
-  names_run : (t : Option TypeId) (cells : ℕ) (xs rest : List Identifier) (known : Points) (k : Known) → AllNew known (map (variable_point b) xs) → Variables b.path (xs ++ rest) known k → Variables b.path rest (known ++ map (variable_point b) xs) ((variables b t cells xs k).run a).1
+  names_run : (t : Option TypeId) (cells : ℕ) (xs rest : List Identifier) (known : Points) (k : Known) → AllNew known (map (variable_point b) xs) →
+      Variables b.path (xs ++ rest) known k → Variables b.path rest (known ++ map (variable_point b) xs) ((variables b t cells xs k).run a).1
   names_run t cells [] rest known k g i = subst (λ y. Variables b.path rest y k) (sym (append-nil known)) i
   names_run t cells (x ∷ xs) rest known k g i =
       subst (λ y. Variables b.path rest y ((variables b t cells (x ∷ xs) k).run a).1) (append_assoc known (variable_point b x ∷ []) (map (variable_point b) xs))
       (names_run t cells xs rest (known ++ variable_point b x ∷ []) (with_variable b k t cells x) g.1 (variable_step b k t cells x (xs ++ rest) known g.0 i))
 
-  part_run : (ss : PlainSections) (known : Points) (k : Known) → AllNew known (variable_points b ss) → Variables b.path (variables_of ss) known k → Variables b.path [] (known ++ variable_points b ss) ((variable_part b ss k).run a).1
+  part_run : (ss : PlainSections) (known : Points) (k : Known) → AllNew known (variable_points b ss) → Variables b.path (variables_of ss) known k →
+      Variables b.path [] (known ++ variable_points b ss) ((variable_part b ss k).run a).1
   part_run NoSections known k g i = subst (λ y. Variables b.path [] y k) (sym (append-nil known)) i
   part_run (Section xs d more) known k g i =
       let first : Points = map (variable_point b) xs in
@@ -205,7 +231,8 @@ module _ (a : Answers) (b : Declaring) where
       let i2 = (typed_if_stays a b.path (Variables b.path all known) (variables_kept b.path all known) x.0).by x.1 i1 in
       let z = (variables b x.0 (size_of y.0) xs y.1).run a in
       let i3 = names_run x.0 (size_of y.0) xs (variables_of more) known y.1 q.0 i2 in
-      let i4 = subst (λ w. Variables b.path (variables_of more) w z.1) (append_assoc known first second) (variables_wider b.path (variables_of more) (known ++ first) second z.1 i3) in
+      let i4 =
+      subst (λ w. Variables b.path (variables_of more) w z.1) (append_assoc known first second) (variables_wider b.path (variables_of more) (known ++ first) second z.1 i3) in
       subst (λ w. Variables b.path [] w ((variable_part b (Section xs d more) k).run a).1) (append_assoc known (first ++ second) (variable_points b more))
       (part_run more (known ++ (first ++ second)) z.1 r.1 i4)
 
@@ -215,7 +242,8 @@ and_false : (x : Bool) → (x && false) ≡ false
 and_false true = refl
 and_false false = refl
 
-parameters_free : (path : List PathStep) (ps : List FormalParameter) (ss rest : List FrameSlot) (i : ℕ) (n : List ℕ) → ParameterSlots ps ss → is_some (lookup (bytes_eq n) (parameter_points path ps (ss ++ rest))) ≡ false → position_from (is_named n) i ss ≡ None
+parameters_free : (path : List PathStep) (ps : List FormalParameter) (ss rest : List FrameSlot) (i : ℕ) (n : List ℕ) → ParameterSlots ps ss →
+    is_some (lookup (bytes_eq n) (parameter_points path ps (ss ++ rest))) ≡ false → position_from (is_named n) i ss ≡ None
 parameters_free path [] [] rest i n g e = refl
 parameters_free path [] (s ∷ ss) rest i n g e = absurd g
 parameters_free path (p ∷ ps) [] rest i n g e = absurd g
@@ -224,14 +252,17 @@ parameters_free path (p ∷ ps) (s ∷ ss) rest i n g e = by (bytes_eq n p.forma
     made : Parameter
     made = record { kind = p.formal.kind; of = parameter_type p; offset = s.offset; own = p.own }
 
-    by : (z : Bool) → bytes_eq n p.formal.name ≡ z → is_some (cond z (Some (record { decl = decl.Param path made; at = 0; last = 0 })) (lookup (bytes_eq n) (parameter_points path ps (ss ++ rest)))) ≡ false →
-        (is_some (lookup (bytes_eq n) (parameter_points path ps (ss ++ rest))) ≡ false → position_from (is_named n) (i + 1) ss ≡ None) → position_from (is_named n) i (s ∷ ss) ≡ None
+    by : (z : Bool) → bytes_eq n p.formal.name ≡ z →
+        is_some (cond z (Some (record { decl = decl.Param path made; at = 0; last = 0 })) (lookup (bytes_eq n) (parameter_points path ps (ss ++ rest)))) ≡ false →
+        (is_some (lookup (bytes_eq n) (parameter_points path ps (ss ++ rest))) ≡ false → position_from (is_named n) (i + 1) ss ≡ None) →
+        position_from (is_named n) i (s ∷ ss) ≡ None
     by true z h f = true_false h
     by false z h f =
         ap (λ x. cond (bytes_eq x n && not (is_result s.kind)) (Some i) (position_from (is_named n) (i + 1) ss)) g.0.0
         ∙ ap (λ x. cond (x && not (is_result s.kind)) (Some i) (position_from (is_named n) (i + 1) ss)) (differ n p.formal.name z) ∙ f h
 
-no_variable : (path : List PathStep) (ps : List FormalParameter) (ss : List FrameSlot) (n : List ℕ) (e : Entry) → lookup (bytes_eq n) (parameter_points path ps ss) ≡ Some e → variable_in e.decl ≡ None
+no_variable : (path : List PathStep) (ps : List FormalParameter) (ss : List FrameSlot) (n : List ℕ) (e : Entry) → lookup (bytes_eq n) (parameter_points path ps ss) ≡ Some e →
+    variable_in e.decl ≡ None
 no_variable path [] ss n e h = none_some h
 no_variable path (p ∷ ps) [] n e h = none_some h
 no_variable path (p ∷ ps) (s ∷ ss) n e h = by (bytes_eq n p.formal.name) h (no_variable path ps ss n e)
@@ -239,11 +270,13 @@ no_variable path (p ∷ ps) (s ∷ ss) n e h = by (bytes_eq n p.formal.name) h (
     made : Parameter
     made = record { kind = p.formal.kind; of = parameter_type p; offset = s.offset; own = p.own }
 
-    by : (z : Bool) → cond z (Some (record { decl = decl.Param path made; at = 0; last = 0 })) (lookup (bytes_eq n) (parameter_points path ps ss)) ≡ Some e → (lookup (bytes_eq n) (parameter_points path ps ss) ≡ Some e → variable_in e.decl ≡ None) → variable_in e.decl ≡ None
+    by : (z : Bool) → cond z (Some (record { decl = decl.Param path made; at = 0; last = 0 })) (lookup (bytes_eq n) (parameter_points path ps ss)) ≡ Some e →
+        (lookup (bytes_eq n) (parameter_points path ps ss) ≡ Some e → variable_in e.decl ≡ None) → variable_in e.decl ≡ None
     by true k f = ap (λ x. variable_in x.decl) (sym (some_inj k))
     by false k f = f k
 
-no_label : (path : List PathStep) (ps : List FormalParameter) (ss : List FrameSlot) (n : List ℕ) (e : Entry) → lookup (bytes_eq n) (parameter_points path ps ss) ≡ Some e → label_in e.decl ≡ false
+no_label : (path : List PathStep) (ps : List FormalParameter) (ss : List FrameSlot) (n : List ℕ) (e : Entry) → lookup (bytes_eq n) (parameter_points path ps ss) ≡ Some e →
+    label_in e.decl ≡ false
 no_label path [] ss n e h = none_some h
 no_label path (p ∷ ps) [] n e h = none_some h
 no_label path (p ∷ ps) (s ∷ ss) n e h = by (bytes_eq n p.formal.name) h (no_label path ps ss n e)
@@ -251,7 +284,8 @@ no_label path (p ∷ ps) (s ∷ ss) n e h = by (bytes_eq n p.formal.name) h (no_
     made : Parameter
     made = record { kind = p.formal.kind; of = parameter_type p; offset = s.offset; own = p.own }
 
-    by : (z : Bool) → cond z (Some (record { decl = decl.Param path made; at = 0; last = 0 })) (lookup (bytes_eq n) (parameter_points path ps ss)) ≡ Some e → (lookup (bytes_eq n) (parameter_points path ps ss) ≡ Some e → label_in e.decl ≡ false) → label_in e.decl ≡ false
+    by : (z : Bool) → cond z (Some (record { decl = decl.Param path made; at = 0; last = 0 })) (lookup (bytes_eq n) (parameter_points path ps ss)) ≡ Some e →
+        (lookup (bytes_eq n) (parameter_points path ps ss) ≡ Some e → label_in e.decl ≡ false) → label_in e.decl ≡ false
     by true k f = ap (λ x. label_in x.decl) (sym (some_inj k))
     by false k f = f k
 
@@ -324,7 +358,8 @@ module _ (a : Answers) (b : Declaring) (name : List ℕ) where
 
   abbrev StartedWith : Option TypeId → Known → Type 0
   StartedWith r k =
-      (slots : List FrameSlot) × (rest : List FrameSlot) × (k.frame ≡ slots ++ rest) × ParameterSlots (parameters_in b.heading.formals) slots × Begins (parameters_in b.heading.formals) k.frame
+      (slots : List FrameSlot) × (rest : List FrameSlot) × (k.frame ≡ slots ++ rest) × ParameterSlots (parameters_in b.heading.formals) slots
+      × Begins (parameters_in b.heading.formals) k.frame
       × ((t : TypeId) → r ≡ Some t → IsResultSlot k.frame t) × ((n : List ℕ) → position (is_named n) slots ≡ None → variable_number k.frame n ≡ None)
 
   start_with : (r : Option TypeId) → StartedWith r ((result_slot name r after_parameters).run a).1
@@ -334,7 +369,8 @@ module _ (a : Answers) (b : Declaring) (name : List ℕ) where
       ps = parameters_in b.heading.formals
 
       by : (r : Option TypeId) → (ss : List FrameSlot) × (after_parameters.frame ≡ [] ++ ss) × ParameterSlots ps ss → StartedWith r ((result_slot name r after_parameters).run a).1
-      by None m = (m.0, [], m.1 ∙ sym (append-nil m.0), m.2, subst (Begins ps) (sym m.1) (begins_at a b ps m.0 m.2), (λ t e. none_some e), (λ n e. ap (position (is_named n)) m.1 ∙ e))
+      by None m =
+          (m.0, [], m.1 ∙ sym (append-nil m.0), m.2, subst (Begins ps) (sym m.1) (begins_at a b ps m.0 m.2), (λ t e. none_some e), (λ n e. ap (position (is_named n)) m.1 ∙ e))
       by (Some t) m =
           let s : FrameSlot = made_slot t in
           let all : after_parameters.frame ++ s ∷ [] ≡ m.0 ++ s ∷ [] = ap (λ x. x ++ s ∷ []) m.1 in (
@@ -359,7 +395,10 @@ module _ (a : Answers) (b : Declaring) (name : List ℕ) where
   started = start_with b.heading.result
 
   -- the names of the block, before anything is read
-  names_are : (n : List ℕ) → lookup (bytes_eq n) after_names.names ≡ or_else (or_else (lookup (bytes_eq n) (program_points b.own.program)) (lookup (bytes_eq n) (parameter_points b.path (parameters_in b.heading.formals) after_given.frame))) (lookup (bytes_eq n) (label_points b ++ declared_points b))
+  names_are : (n : List ℕ) →
+      lookup (bytes_eq n) after_names.names ≡ or_else
+      (or_else (lookup (bytes_eq n) (program_points b.own.program)) (lookup (bytes_eq n) (parameter_points b.path (parameters_in b.heading.formals) after_given.frame)))
+      (lookup (bytes_eq n) (label_points b ++ declared_points b))
   names_are n =
       let ps : Points = parameter_points b.path (parameters_in b.heading.formals) after_given.frame in
       let known : Points = with_points [] (program_points b.own.program ++ ps) in
@@ -370,10 +409,12 @@ module _ (a : Answers) (b : Declaring) (name : List ℕ) where
   abbrev vars : List Identifier
   vars = variables_of b.own.variables
 
-  parameter_slot : (n : List ℕ) (e : Entry) (q : Parameter) → lookup (bytes_eq n) (parameter_points b.path (parameters_in b.heading.formals) after_given.frame) ≡ Some e → e.decl ≡ decl.Param b.path q → IsParameterSlot (parameters_in b.heading.formals) after_given.frame n q
+  parameter_slot : (n : List ℕ) (e : Entry) (q : Parameter) → lookup (bytes_eq n) (parameter_points b.path (parameters_in b.heading.formals) after_given.frame) ≡ Some e →
+      e.decl ≡ decl.Param b.path q → IsParameterSlot (parameters_in b.heading.formals) after_given.frame n q
   parameter_slot n e q l d =
       let s = started in
-      let f = parameter_found b.path (parameters_in b.heading.formals) s.0 s.1 0 n e q s.3 (subst (λ x. lookup (bytes_eq n) (parameter_points b.path (parameters_in b.heading.formals) x) ≡ Some e) s.2 l) d in
+      let f = parameter_found b.path (parameters_in b.heading.formals) s.0 s.1 0 n e q s.3
+      (subst (λ x. lookup (bytes_eq n) (parameter_points b.path (parameters_in b.heading.formals) x) ≡ Some e) s.2 l) d in
       record {
         number = f.0;
         parameter = f.2;
@@ -392,11 +433,16 @@ module _ (a : Answers) (b : Declaring) (name : List ℕ) where
       record {
         begins = started.4;
         result = started.5;
-        parameter = λ n e q l d. by n e q d (one_of (lookup (bytes_eq n) (program_points b.own.program)) (lookup (bytes_eq n) (parameter_points b.path (parameters_in b.heading.formals) after_given.frame)) (lookup (bytes_eq n) (label_points b ++ declared_points b)) e (sym (names_are n) ∙ l));
+        parameter =
+            λ n e q l d. by n e q d
+            (one_of (lookup (bytes_eq n) (program_points b.own.program)) (lookup (bytes_eq n) (parameter_points b.path (parameters_in b.heading.formals) after_given.frame))
+            (lookup (bytes_eq n) (label_points b ++ declared_points b)) e (sym (names_are n) ∙ l));
       }
     where
       by : (n : List ℕ) (e : Entry) (q : Parameter) → e.decl ≡ decl.Param b.path q →
-          (lookup (bytes_eq n) (program_points b.own.program) ≡ Some e) ⊎ ((lookup (bytes_eq n) (parameter_points b.path (parameters_in b.heading.formals) after_given.frame) ≡ Some e) ⊎ (lookup (bytes_eq n) (label_points b ++ declared_points b) ≡ Some e)) → IsParameterSlot (parameters_in b.heading.formals) after_given.frame n q
+          (lookup (bytes_eq n) (program_points b.own.program) ≡ Some e)
+          ⊎ ((lookup (bytes_eq n) (parameter_points b.path (parameters_in b.heading.formals) after_given.frame) ≡ Some e)
+          ⊎ (lookup (bytes_eq n) (label_points b ++ declared_points b) ≡ Some e)) → IsParameterSlot (parameters_in b.heading.formals) after_given.frame n q
       by n e q d (inl l) = absurd (subst (OkPoint vars n e.at) d (keyed_found vars n (program_points b.own.program) e (program_keyed vars b.own.program) l))
       by n e q d (inr (inl l)) = parameter_slot n e q l d
       by n e q d (inr (inr l)) = later (later_found b vars n e (declared_keyed b) l)
@@ -407,10 +453,16 @@ module _ (a : Answers) (b : Declaring) (name : List ℕ) where
 
   labelled_first : Labelled b after_names
   labelled_first =
-      record { labels = λ n e q s l d. by n e q s d (one_of (lookup (bytes_eq n) (program_points b.own.program)) (lookup (bytes_eq n) (parameter_points b.path (parameters_in b.heading.formals) after_given.frame)) (lookup (bytes_eq n) (label_points b ++ declared_points b)) e (sym (names_are n) ∙ l)) }
+      record {
+        labels = λ n e q s l d. by n e q s d
+            (one_of (lookup (bytes_eq n) (program_points b.own.program)) (lookup (bytes_eq n) (parameter_points b.path (parameters_in b.heading.formals) after_given.frame))
+            (lookup (bytes_eq n) (label_points b ++ declared_points b)) e (sym (names_are n) ∙ l));
+      }
     where
       by : (n : List ℕ) (e : Entry) (q : List PathStep) (s : LabelStanding) → e.decl ≡ decl.Label q s →
-          (lookup (bytes_eq n) (program_points b.own.program) ≡ Some e) ⊎ ((lookup (bytes_eq n) (parameter_points b.path (parameters_in b.heading.formals) after_given.frame) ≡ Some e) ⊎ (lookup (bytes_eq n) (label_points b ++ declared_points b) ≡ Some e)) → LabelIs b b.own.labels n (decl.Label q s)
+          (lookup (bytes_eq n) (program_points b.own.program) ≡ Some e)
+          ⊎ ((lookup (bytes_eq n) (parameter_points b.path (parameters_in b.heading.formals) after_given.frame) ≡ Some e)
+          ⊎ (lookup (bytes_eq n) (label_points b ++ declared_points b) ≡ Some e)) → LabelIs b b.own.labels n (decl.Label q s)
       by n e q s d (inl l) = absurd (subst (OkPoint vars n e.at) d (keyed_found vars n (program_points b.own.program) e (program_keyed vars b.own.program) l))
       by n e q s d (inr (inl l)) = true_false (sym (ap label_in d) ∙ no_label b.path (parameters_in b.heading.formals) after_given.frame n e l)
       by n e q s d (inr (inr l)) = later (later_found b vars n e (declared_keyed b) l)
@@ -429,12 +481,19 @@ module _ (a : Answers) (b : Declaring) (name : List ℕ) where
   variables_first : Variables b.path vars (with_points [] given_names ++ before_part) after_names
   variables_first =
       record {
-        slots = λ n e v l d. inl (by n e v d (one_of (lookup (bytes_eq n) (program_points b.own.program)) (lookup (bytes_eq n) (parameter_points b.path (parameters_in b.heading.formals) after_given.frame)) (lookup (bytes_eq n) (label_points b ++ declared_points b)) e (sym (names_are n) ∙ l)));
-        free = λ n u. started.6 n (position_from-zero (is_named n) started.0 ∙ parameters_free b.path (parameters_in b.heading.formals) started.0 started.1 0 n started.3 (subst (λ x. is_some (lookup (bytes_eq n) (parameter_points b.path (parameters_in b.heading.formals) x)) ≡ false) started.2 (unknown n u)));
+        slots = λ n e v l d. inl
+            (by n e v d
+            (one_of (lookup (bytes_eq n) (program_points b.own.program)) (lookup (bytes_eq n) (parameter_points b.path (parameters_in b.heading.formals) after_given.frame))
+            (lookup (bytes_eq n) (label_points b ++ declared_points b)) e (sym (names_are n) ∙ l)));
+        free = λ n u. started.6 n (position_from-zero (is_named n) started.0
+            ∙ parameters_free b.path (parameters_in b.heading.formals) started.0 started.1 0 n started.3
+            (subst (λ x. is_some (lookup (bytes_eq n) (parameter_points b.path (parameters_in b.heading.formals) x)) ≡ false) started.2 (unknown n u)));
       }
     where
       by : (n : List ℕ) (e : Entry) (v : Variable) → e.decl ≡ decl.Var b.path v →
-          (lookup (bytes_eq n) (program_points b.own.program) ≡ Some e) ⊎ ((lookup (bytes_eq n) (parameter_points b.path (parameters_in b.heading.formals) after_given.frame) ≡ Some e) ⊎ (lookup (bytes_eq n) (label_points b ++ declared_points b) ≡ Some e)) → InVars vars n e.at
+          (lookup (bytes_eq n) (program_points b.own.program) ≡ Some e)
+          ⊎ ((lookup (bytes_eq n) (parameter_points b.path (parameters_in b.heading.formals) after_given.frame) ≡ Some e)
+          ⊎ (lookup (bytes_eq n) (label_points b ++ declared_points b) ≡ Some e)) → InVars vars n e.at
       by n e v d (inl l) = subst (OkPoint vars n e.at) d (keyed_found vars n (program_points b.own.program) e (program_keyed vars b.own.program) l)
       by n e v d (inr (inl l)) = none_some (sym (no_variable b.path (parameters_in b.heading.formals) after_given.frame n e l) ∙ ap variable_in d)
       by n e v d (inr (inr l)) = later (later_found b vars n e (declared_keyed b) l)
@@ -447,7 +506,8 @@ module _ (a : Answers) (b : Declaring) (name : List ℕ) where
       last_none None r e = e
       last_none (Some x) r e = true_false e
 
-      unknown : (n : List ℕ) → is_known n (with_points [] given_names ++ before_part) ≡ false → is_some (lookup (bytes_eq n) (parameter_points b.path (parameters_in b.heading.formals) after_given.frame)) ≡ false
+      unknown : (n : List ℕ) → is_known n (with_points [] given_names ++ before_part) ≡ false →
+          is_some (lookup (bytes_eq n) (parameter_points b.path (parameters_in b.heading.formals) after_given.frame)) ≡ false
       unknown n u =
           last_none (lookup (bytes_eq n) (program_points b.own.program)) (lookup (bytes_eq n) (parameter_points b.path (parameters_in b.heading.formals) after_given.frame))
           (ap is_some (sym (lookup_append (bytes_eq n) (program_points b.own.program) (parameter_points b.path (parameters_in b.heading.formals) after_given.frame)))
@@ -478,10 +538,13 @@ module _ (a : Answers) (b : Declaring) (name : List ℕ) where
     labels_small = ((small_clean a [] b.own.labels).by after_names.errors none_labels).1
 
     names_new : AllNew (with_points [] given_names) (declared_points b)
-    names_new = all_new (with_points [] given_names) (declared_points b) ((reported a (repeated (with_points [] given_names) (declared_points b))).by after_given.errors none_first).1
+    names_new =
+        all_new (with_points [] given_names) (declared_points b) ((reported a (repeated (with_points [] given_names) (declared_points b))).by after_given.errors none_first).1
 
     part_new : AllNew (with_points [] given_names ++ before_part) (variable_points b b.own.variables)
-    part_new = (all_new_append (with_points [] given_names) before_part (variable_points b b.own.variables) (all_new_append (with_points [] given_names) (before_part ++ variable_points b b.own.variables) (routine_points b [] b.own.declarations) names_new).0).1
+    part_new =
+        (all_new_append (with_points [] given_names) before_part (variable_points b b.own.variables)
+        (all_new_append (with_points [] given_names) (before_part ++ variable_points b b.own.variables) (routine_points b [] b.own.declarations) names_new).0).1
 
     variables_last : Variables b.path [] ((with_points [] given_names ++ before_part) ++ variable_points b b.own.variables) at_end
     variables_last =
@@ -524,15 +587,22 @@ module _ (tables : List Table) where
   abbrev pub the_block : List PathStep → PlainBlock → Declaring
   the_block path own = record { path = path; own = own; heading = heading_of tables path }
 
-  block_fits : (b : PlacedBlock) → table_at tables b.path ≡ Some (table_after tables b) → errors_in (answers_of tables) b.path b.own ≡ [] → FrameFits tables b.path (typed_in (answers_of tables) b.path b.own).frame
+  block_fits : (b : PlacedBlock) → table_at tables b.path ≡ Some (table_after tables b) → errors_in (answers_of tables) b.path b.own ≡ [] →
+      FrameFits tables b.path (typed_in (answers_of tables) b.path b.own).frame
   block_fits b t e =
-      let none = (no_front ((elaborate b.path b.own).run (answers_of tables)).errors ((statement_part b.path b.own []).run (answers_of tables)).1 (no_reports ((judge b.path b.own).run (answers_of tables)).reports e)).0 in
+      let none =
+      (no_front ((elaborate b.path b.own).run (answers_of tables)).errors ((statement_part b.path b.own []).run (answers_of tables)).1
+      (no_reports ((judge b.path b.own).run (answers_of tables)).reports e)).0 in
       let f = fitted (answers_of tables) (the_block b.path b.own) (name_at b.path) none in
       record {
         parameters = f.begins.0;
         types = f.begins.1;
-        variable = λ n v d. let g = entry n (decl.Var b.path v) (subst (λ o. option_map (λ x. x.decl) (option_and_then (λ y. lookup (bytes_eq n) y.names) o) ≡ Some (decl.Var b.path v)) t d) in f.variable n g.0 v g.1 g.2;
-        parameter = λ n q d. let g = entry n (decl.Param b.path q) (subst (λ o. option_map (λ x. x.decl) (option_and_then (λ y. lookup (bytes_eq n) y.names) o) ≡ Some (decl.Param b.path q)) t d) in f.parameter n g.0 q g.1 g.2;
+        variable = λ n v d. let g =
+            entry n (decl.Var b.path v) (subst (λ o. option_map (λ x. x.decl) (option_and_then (λ y. lookup (bytes_eq n) y.names) o) ≡ Some (decl.Var b.path v)) t d) in
+            f.variable n g.0 v g.1 g.2;
+        parameter = λ n q d. let g =
+            entry n (decl.Param b.path q) (subst (λ o. option_map (λ x. x.decl) (option_and_then (λ y. lookup (bytes_eq n) y.names) o) ≡ Some (decl.Param b.path q)) t d) in
+            f.parameter n g.0 q g.1 g.2;
         result = f.result;
       }
     where
@@ -540,10 +610,12 @@ module _ (tables : List Table) where
       found None d h = none_some h
       found (Some x) d h = (x, refl, some_inj h)
 
-      entry : (n : List ℕ) (d : Decl) → option_map (λ x. x.decl) (lookup (bytes_eq n) (table_after tables b).names) ≡ Some d → (e : Entry) × (lookup (bytes_eq n) (table_after tables b).names ≡ Some e) × (e.decl ≡ d)
+      entry : (n : List ℕ) (d : Decl) → option_map (λ x. x.decl) (lookup (bytes_eq n) (table_after tables b).names) ≡ Some d → (e : Entry)
+          × (lookup (bytes_eq n) (table_after tables b).names ≡ Some e) × (e.decl ≡ d)
       entry n d h = found (lookup (bytes_eq n) (table_after tables b).names) d h
 
-  blocks_fit : (bs : List PlacedBlock) → AllByRecursion (λ b. table_at tables b.path ≡ Some (table_after tables b)) bs → flat_map (errors_at (answers_of tables)) bs ≡ [] → AllByRecursion (λ b. FrameFits tables b.path (typed_in (answers_of tables) b.path b.own).frame) bs
+  blocks_fit : (bs : List PlacedBlock) → AllByRecursion (λ b. table_at tables b.path ≡ Some (table_after tables b)) bs → flat_map (errors_at (answers_of tables)) bs ≡ [] →
+      AllByRecursion (λ b. FrameFits tables b.path (typed_in (answers_of tables) b.path b.own).frame) bs
   blocks_fit [] t e = tt
   blocks_fit (b ∷ bs) t e =
       let h = no_front (errors_at (answers_of tables) b) (flat_map (errors_at (answers_of tables)) bs) e in

@@ -44,15 +44,42 @@ is_named n s = bytes_eq s.name n && not (is_result s.kind)
 
 pub variable_slot_more : (frame : List FrameSlot) (s : FrameSlot) (n : List ℕ) (v : Variable) → IsVariableSlot frame n v → IsVariableSlot (frame ++ s ∷ []) n v
 variable_slot_more frame s n v g =
-    record { number = g.number; slot = g.slot; found = position_front (is_named n) g.number frame (s ∷ []) g.found; is = slice_get_front frame (s ∷ []) g.number g.slot g.is; of_kind = g.of_kind; of = g.of; offset = g.offset }
+    record {
+      number = g.number;
+      slot = g.slot;
+      found = position_front (is_named n) g.number frame (s ∷ []) g.found;
+      is = slice_get_front frame (s ∷ []) g.number g.slot g.is;
+      of_kind = g.of_kind;
+      of = g.of;
+      offset = g.offset;
+    }
 
-pub parameter_slot_more : (ps : List FormalParameter) (frame : List FrameSlot) (s : FrameSlot) (n : List ℕ) (q : Parameter) → IsParameterSlot ps frame n q → IsParameterSlot ps (frame ++ s ∷ []) n q
+pub parameter_slot_more : (ps : List FormalParameter) (frame : List FrameSlot) (s : FrameSlot) (n : List ℕ) (q : Parameter) → IsParameterSlot ps frame n q →
+    IsParameterSlot ps (frame ++ s ∷ []) n q
 parameter_slot_more ps frame s n q g =
-    record { number = g.number; parameter = g.parameter; found = position_front (is_named n) g.number frame (s ∷ []) g.found; is = g.is; of_kind = g.of_kind; of = g.of; own = g.own; slot = g.slot; at = slice_get_front frame (s ∷ []) g.number g.slot g.at; offset = g.offset }
+    record {
+      number = g.number;
+      parameter = g.parameter;
+      found = position_front (is_named n) g.number frame (s ∷ []) g.found;
+      is = g.is;
+      of_kind = g.of_kind;
+      of = g.of;
+      own = g.own;
+      slot = g.slot;
+      at = slice_get_front frame (s ∷ []) g.number g.slot g.at;
+      offset = g.offset;
+    }
 
 pub result_slot_more : (frame : List FrameSlot) (s : FrameSlot) (t : TypeId) → IsResultSlot frame t → IsResultSlot (frame ++ s ∷ []) t
 result_slot_more frame s t g =
-    record { number = g.number; slot = g.slot; found = position_front (λ x. is_result x.kind) g.number frame (s ∷ []) g.found; is = slice_get_front frame (s ∷ []) g.number g.slot g.is; of_kind = g.of_kind; of = g.of }
+    record {
+      number = g.number;
+      slot = g.slot;
+      found = position_front (λ x. is_result x.kind) g.number frame (s ∷ []) g.found;
+      is = slice_get_front frame (s ∷ []) g.number g.slot g.is;
+      of_kind = g.of_kind;
+      of = g.of;
+    }
 
 pub begins_more : (ps : List FormalParameter) (frame : List FrameSlot) (s : FrameSlot) → is_parameter s.kind ≡ false → BeginsWith ps frame → BeginsWith ps (frame ++ s ∷ [])
 begins_more [] [] s e g = (e, tt)
@@ -119,7 +146,8 @@ pub keyed_found : (vars : List Identifier) (n : List ℕ) (ps : Points) (e : Ent
 keyed_found vars n [] e g h = none_some h
 keyed_found vars n (p ∷ ps) e g h = by (bytes_eq n p.0) refl h (keyed_found vars n ps e g.1)
   where
-    by : (b : Bool) → bytes_eq n p.0 ≡ b → cond b (Some p.1) (lookup (bytes_eq n) ps) ≡ Some e → (lookup (bytes_eq n) ps ≡ Some e → OkPoint vars n e.at e.decl) → OkPoint vars n e.at e.decl
+    by : (b : Bool) → bytes_eq n p.0 ≡ b → cond b (Some p.1) (lookup (bytes_eq n) ps) ≡ Some e → (lookup (bytes_eq n) ps ≡ Some e → OkPoint vars n e.at e.decl) →
+        OkPoint vars n e.at e.decl
     by true k q f = subst (λ y. OkPoint vars n y.at y.decl) (some_inj q) (subst (λ m. OkPoint vars m p.1.at p.1.decl) (sym (equal n p.0 k)) g.0)
     by false k q f = f q
 
@@ -144,14 +172,17 @@ module _ (b : Declaring) where
       or_behind true k = refl
       or_behind false k = k
 
-      by : (z : Bool) → bytes_eq n (label_name x.value) ≡ z → cond z (Some (label_point b x).1) (lookup (bytes_eq n) (map (label_point b) ns)) ≡ Some e → (lookup (bytes_eq n) (map (label_point b) ns) ≡ Some e → LabelIs ns n e.decl) → LabelIs (x ∷ ns) n e.decl
+      by : (z : Bool) → bytes_eq n (label_name x.value) ≡ z → cond z (Some (label_point b x).1) (lookup (bytes_eq n) (map (label_point b) ns)) ≡ Some e →
+          (lookup (bytes_eq n) (map (label_point b) ns) ≡ Some e → LabelIs ns n e.decl) → LabelIs (x ∷ ns) n e.decl
       by true z k f = (x.value, equal n (label_name x.value) z, ap (λ y. y || list_any (has_value x.value) ns) (eq-eqb x.value x.value refl), ap (λ y. y.decl) (sym (some_inj k)))
       by false z k f = let r = f k in (r.0, r.1, or_behind (has_value r.0 x) r.2, r.3)
 
-  pub later_found : (vars : List Identifier) (n : List ℕ) (e : Entry) → Keyed vars (declared_points b) → lookup (bytes_eq n) (label_points b ++ declared_points b) ≡ Some e → LabelIs b.own.labels n e.decl ⊎ OkPoint vars n e.at e.decl
+  pub later_found : (vars : List Identifier) (n : List ℕ) (e : Entry) → Keyed vars (declared_points b) → lookup (bytes_eq n) (label_points b ++ declared_points b) ≡ Some e →
+      LabelIs b.own.labels n e.decl ⊎ OkPoint vars n e.at e.decl
   later_found vars n e g h = by (lookup (bytes_eq n) (label_points b)) refl (sym (lookup_append (bytes_eq n) (label_points b) (declared_points b)) ∙ h)
     where
-      by : (o : Option Entry) → lookup (bytes_eq n) (label_points b) ≡ o → or_else o (lookup (bytes_eq n) (declared_points b)) ≡ Some e → LabelIs b.own.labels n e.decl ⊎ OkPoint vars n e.at e.decl
+      by : (o : Option Entry) → lookup (bytes_eq n) (label_points b) ≡ o → or_else o (lookup (bytes_eq n) (declared_points b)) ≡ Some e → LabelIs b.own.labels n e.decl
+          ⊎ OkPoint vars n e.at e.decl
       by None k l = inr (keyed_found vars n (declared_points b) e g l)
       by (Some x) k l = inl (label_found b.own.labels n e (k ∙ l))
 
@@ -162,11 +193,13 @@ module _ (b : Declaring) where
   one_section vars [] f = tt
   one_section vars (x ∷ xs) f = (tt, one_section vars xs (λ n at g. f n at (inr g)))
 
-  pub variables_keyed : (vars : List Identifier) (ss : PlainSections) → ((n : List ℕ) (at : ℕ) → InVars (variables_of ss) n at → InVars vars n at) → Keyed vars (variable_points b ss)
+  pub variables_keyed : (vars : List Identifier) (ss : PlainSections) → ((n : List ℕ) (at : ℕ) → InVars (variables_of ss) n at → InVars vars n at) →
+      Keyed vars (variable_points b ss)
   variables_keyed vars NoSections f = tt
   variables_keyed vars (Section xs d more) f =
       keyed_append vars (map (variable_point b) xs ++ enumeration_points b d) (variable_points b more)
-      (keyed_append vars (map (variable_point b) xs) (enumeration_points b d) (one_section vars xs (λ n at g. f n at (in_front xs (variables_of more) n at g))) (enumeration_keyed vars d))
+      (keyed_append vars (map (variable_point b) xs) (enumeration_points b d) (one_section vars xs (λ n at g. f n at (in_front xs (variables_of more) n at g)))
+      (enumeration_keyed vars d))
       (variables_keyed vars more (λ n at g. f n at (in_behind xs (variables_of more) n at g)))
 
   pub routines_keyed : (vars : List Identifier) (earlier list : List PlainDeclaration) → Keyed vars (routine_points b earlier list)
@@ -184,7 +217,8 @@ module _ (b : Declaring) where
       let ts = flat_map (type_points b) b.own.types in
       keyed_append vars (cs ++ ts ++ variable_points b b.own.variables) (routine_points b [] b.own.declarations)
       (keyed_append vars (cs ++ ts) (variable_points b b.own.variables)
-      (keyed_append vars cs ts (keyed_map vars (constant_point b) (λ d. tt) b.own.constants) (keyed_flat vars (type_points b) (λ d. (tt, enumeration_keyed vars d.of)) b.own.types))
+      (keyed_append vars cs ts (keyed_map vars (constant_point b) (λ d. tt) b.own.constants)
+      (keyed_flat vars (type_points b) (λ d. (tt, enumeration_keyed vars d.of)) b.own.types))
       (variables_keyed vars b.own.variables (λ n at g. g)))
       (routines_keyed vars [] b.own.declarations)
 
@@ -255,7 +289,8 @@ variable_in _ = None
 -- what a parameter's name leads to
 abbrev pub FoundParameter : List FormalParameter → List FrameSlot → ℕ → List ℕ → Parameter → Type 0
 FoundParameter ps frame i n q =
-    (j : ℕ) × (position_from (is_named n) i frame ≡ Some (i + j)) × (p : FormalParameter) × (slice_get ps j ≡ Some p) × (p.formal.kind ≡ q.kind) × ((t : TypeId) → q.of ≡ Some t → p.formal.of ≡ Some t) × (p.own ≡ q.own)
+    (j : ℕ) × (position_from (is_named n) i frame ≡ Some (i + j)) × (p : FormalParameter) × (slice_get ps j ≡ Some p) × (p.formal.kind ≡ q.kind)
+    × ((t : TypeId) → q.of ≡ Some t → p.formal.of ≡ Some t) × (p.own ≡ q.own)
     × (s : FrameSlot) × (slice_get frame j ≡ Some s) × (s.offset ≡ q.offset)
 
 pub parameter_found :
@@ -268,11 +303,14 @@ parameter_found path (p ∷ ps) (s ∷ ss) rest i n e q g h d = by (bytes_eq n p
     made : Parameter
     made = record { kind = p.formal.kind; of = parameter_type p; offset = s.offset; own = p.own }
 
-    by : (z : Bool) → bytes_eq n p.formal.name ≡ z → cond z (Some (record { decl = decl.Param path made; at = 0; last = 0 })) (lookup (bytes_eq n) (parameter_points path ps (ss ++ rest))) ≡ Some e →
-        (lookup (bytes_eq n) (parameter_points path ps (ss ++ rest)) ≡ Some e → e.decl ≡ decl.Param path q → FoundParameter ps (ss ++ rest) (i + 1) n q) → FoundParameter (p ∷ ps) (s ∷ ss ++ rest) i n q
+    by : (z : Bool) → bytes_eq n p.formal.name ≡ z →
+        cond z (Some (record { decl = decl.Param path made; at = 0; last = 0 })) (lookup (bytes_eq n) (parameter_points path ps (ss ++ rest))) ≡ Some e →
+        (lookup (bytes_eq n) (parameter_points path ps (ss ++ rest)) ≡ Some e → e.decl ≡ decl.Param path q → FoundParameter ps (ss ++ rest) (i + 1) n q) →
+        FoundParameter (p ∷ ps) (s ∷ ss ++ rest) i n q
     by true z k f =
         let same : made ≡ q = some_inj (ap (λ x. parameter_in x.decl) (some_inj k) ∙ ap parameter_in d) in
-        let test : is_named n s ≡ true = ap (λ x. bytes_eq s.name n && not (is_result x)) g.0.1 ∙ ap (λ x. x && true) (equal_is s.name n (g.0.0 ∙ sym (equal n p.formal.name z))) in (
+        let test : is_named n s ≡ true = ap (λ x. bytes_eq s.name n && not (is_result x)) g.0.1
+        ∙ ap (λ x. x && true) (equal_is s.name n (g.0.0 ∙ sym (equal n p.formal.name z))) in (
           0,
           ap (λ x. cond x (Some i) (position_from (is_named n) (i + 1) (ss ++ rest))) test ∙ ap Some (omega arith),
           p,
@@ -300,7 +338,8 @@ other_variable d path v o e = subst IsOther e o
 pub record Framed (path : List PathStep) (h : Heading) (k : Known) : Type 0 where
   pub begins : Begins (parameters_in h.formals) k.frame
   pub result : (t : TypeId) → h.result ≡ Some t → IsResultSlot k.frame t
-  pub parameter : (n : List ℕ) (e : Entry) (q : Parameter) → lookup (bytes_eq n) k.names ≡ Some e → e.decl ≡ decl.Param path q → IsParameterSlot (parameters_in h.formals) k.frame n q
+  pub parameter : (n : List ℕ) (e : Entry) (q : Parameter) → lookup (bytes_eq n) k.names ≡ Some e → e.decl ≡ decl.Param path q →
+      IsParameterSlot (parameters_in h.formals) k.frame n q
 
 -- the variables still to come, and the names of the slots so far
 pub record Variables (path : List PathStep) (rest : List Identifier) (known : Points) (k : Known) : Type 0 where
@@ -309,7 +348,8 @@ pub record Variables (path : List PathStep) (rest : List Identifier) (known : Po
 
 -- a label of the block is one of its label part
 pub record Labelled (b : Declaring) (k : Known) : Type 0 where
-  pub labels : (n : List ℕ) (e : Entry) (q : List PathStep) (s : LabelStanding) → lookup (bytes_eq n) k.names ≡ Some e → e.decl ≡ decl.Label q s → LabelIs b b.own.labels n (decl.Label q s)
+  pub labels : (n : List ℕ) (e : Entry) (q : List PathStep) (s : LabelStanding) → lookup (bytes_eq n) k.names ≡ Some e → e.decl ≡ decl.Label q s →
+      LabelIs b b.own.labels n (decl.Label q s)
 
 abbrev pub label_in : Decl → Bool
 label_in (decl.Label q s) = true
@@ -333,11 +373,16 @@ module _ (path : List PathStep) where
         shapes = λ k ss i. record { begins = i.begins; result = i.result; parameter = i.parameter };
         headings = λ k hs i. record { begins = i.begins; result = i.result; parameter = i.parameter };
         nested = λ k ns i. record { begins = i.begins; result = i.result; parameter = i.parameter };
-        fills = λ k m at d o i. record { begins = i.begins; result = i.result; parameter = λ n e q l p. old k m at d o i n e q p (found_before n m at d (lookup (bytes_eq n) k.names) e (sym (lookup_filled n m at d k.names) ∙ l)) };
+        fills = λ k m at d o i. record {
+          begins = i.begins;
+          result = i.result;
+          parameter = λ n e q l p. old k m at d o i n e q p (found_before n m at d (lookup (bytes_eq n) k.names) e (sym (lookup_filled n m at d k.names) ∙ l));
+        };
       }
     where
       old : (k : Known) (m : List ℕ) (at : ℕ) (d : Decl) → IsOther d → Framed path h k → (n : List ℕ) (e : Entry) (q : Parameter) → e.decl ≡ decl.Param path q →
-          ((m ≡ n) × (e.decl ≡ d) × (e.at ≡ at) × (x : Entry) × (lookup (bytes_eq n) k.names ≡ Some x) × (x.at ≡ at)) ⊎ ((lookup (bytes_eq n) k.names ≡ Some e) × ((m ≡ n) × (e.at ≡ at) → ⊥)) → IsParameterSlot (parameters_in h.formals) k.frame n q
+          ((m ≡ n) × (e.decl ≡ d) × (e.at ≡ at) × (x : Entry) × (lookup (bytes_eq n) k.names ≡ Some x) × (x.at ≡ at))
+          ⊎ ((lookup (bytes_eq n) k.names ≡ Some e) × ((m ≡ n) × (e.at ≡ at) → ⊥)) → IsParameterSlot (parameters_in h.formals) k.frame n q
       old k m at d o i n e q p (inl f) = absurd (other_parameter d path q o (sym f.1 ∙ p))
       old k m at d o i n e q p (inr f) = i.parameter n e q f.0 p
 
@@ -348,11 +393,16 @@ module _ (path : List PathStep) where
         shapes = λ k ss i. record { slots = i.slots; free = i.free };
         headings = λ k hs i. record { slots = i.slots; free = i.free };
         nested = λ k ns i. record { slots = i.slots; free = i.free };
-        fills = λ k m at d o i. record { slots = λ n e v l p. old k m at d o i n e v p (found_before n m at d (lookup (bytes_eq n) k.names) e (sym (lookup_filled n m at d k.names) ∙ l)); free = i.free };
+        fills = λ k m at d o i. record {
+          slots = λ n e v l p. old k m at d o i n e v p
+              (found_before n m at d (lookup (bytes_eq n) k.names) e (sym (lookup_filled n m at d k.names) ∙ l));
+          free = i.free;
+        };
       }
     where
       old : (k : Known) (m : List ℕ) (at : ℕ) (d : Decl) → IsOther d → Variables path rest known k → (n : List ℕ) (e : Entry) (v : Variable) → e.decl ≡ decl.Var path v →
-          ((m ≡ n) × (e.decl ≡ d) × (e.at ≡ at) × (x : Entry) × (lookup (bytes_eq n) k.names ≡ Some x) × (x.at ≡ at)) ⊎ ((lookup (bytes_eq n) k.names ≡ Some e) × ((m ≡ n) × (e.at ≡ at) → ⊥)) → InVars rest n e.at ⊎ IsVariableSlot k.frame n v
+          ((m ≡ n) × (e.decl ≡ d) × (e.at ≡ at) × (x : Entry) × (lookup (bytes_eq n) k.names ≡ Some x) × (x.at ≡ at))
+          ⊎ ((lookup (bytes_eq n) k.names ≡ Some e) × ((m ≡ n) × (e.at ≡ at) → ⊥)) → InVars rest n e.at ⊎ IsVariableSlot k.frame n v
       old k m at d o i n e v p (inl f) = absurd (other_variable d path v o (sym f.1 ∙ p))
       old k m at d o i n e v p (inr f) = i.slots n e v f.0 p
 
@@ -365,10 +415,14 @@ labelled_kept b =
       shapes = λ k ss i. record { labels = i.labels };
       headings = λ k hs i. record { labels = i.labels };
       nested = λ k ns i. record { labels = i.labels };
-      fills = λ k m at d o i. record { labels = λ n e q s l p. old k m at d o i n e q s p (found_before n m at d (lookup (bytes_eq n) k.names) e (sym (lookup_filled n m at d k.names) ∙ l)) };
+      fills = λ k m at d o i. record {
+        labels = λ n e q s l p. old k m at d o i n e q s p
+            (found_before n m at d (lookup (bytes_eq n) k.names) e (sym (lookup_filled n m at d k.names) ∙ l));
+      };
     }
   where
     old : (k : Known) (m : List ℕ) (at : ℕ) (d : Decl) → IsOther d → Labelled b k → (n : List ℕ) (e : Entry) (q : List PathStep) (s : LabelStanding) → e.decl ≡ decl.Label q s →
-        ((m ≡ n) × (e.decl ≡ d) × (e.at ≡ at) × (x : Entry) × (lookup (bytes_eq n) k.names ≡ Some x) × (x.at ≡ at)) ⊎ ((lookup (bytes_eq n) k.names ≡ Some e) × ((m ≡ n) × (e.at ≡ at) → ⊥)) → LabelIs b b.own.labels n (decl.Label q s)
+        ((m ≡ n) × (e.decl ≡ d) × (e.at ≡ at) × (x : Entry) × (lookup (bytes_eq n) k.names ≡ Some x) × (x.at ≡ at))
+        ⊎ ((lookup (bytes_eq n) k.names ≡ Some e) × ((m ≡ n) × (e.at ≡ at) → ⊥)) → LabelIs b b.own.labels n (decl.Label q s)
     old k m at d o i n e q s p (inl f) = absurd (other_label d q s o (sym f.1 ∙ p))
     old k m at d o i n e q s p (inr f) = i.labels n e q s f.0 p
