@@ -266,6 +266,7 @@ accepted_fits program p is missing short accepted types =
             records = λ t r i s c h n k e. record_files tables p c s.of ((missing.shapes t (shape.Rec r) h).files n i s k) e;
             ordinals = types.ordinals;
           };
+      procedures = types.procedures;
     }
   where
     tables : List Table
@@ -287,4 +288,5 @@ fits_right tables p f =
       counted = f.types.counted;
       cells = f.types.cells;
       ordinals = f.types.ordinals;
+      procedures = f.procedures;
     }

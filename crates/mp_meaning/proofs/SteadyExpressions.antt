@@ -1,6 +1,6 @@
 -- Calls and evaluation: an activation is made behind its static parent, and ended.
 use Rattle.std.proofs.Common.{◌≡◌, ℕ, ◌+◌, ◌≤◌, List, [], ◌∷◌, Option, Some, None, Bool, true, false, refl, sym, ap, ◌∙◌, subst, arith, eqb-true}
-use Rattle.std.specs.Prelude.{nat_eq, nat_lt, nat_le, length, slice_get, not, ◌||◌, ◌*◌, ◌&&◌, ◌-ℤ◌}
+use Rattle.std.specs.Prelude.{is_none, nat_eq, nat_lt, nat_le, length, slice_get, not, ◌||◌, ◌*◌, ◌&&◌, ◌-ℤ◌}
 use Rattle.mp_base.specs.declared.limits.TheConstants.{ACTIVATION_LIMIT, CELL_LIMIT}
 use Rattle.mp_tables.specs.declared.typed_expressions.Located.{Located}
 use Rattle.mp_tables.specs.declared.typed_expressions.Root.{Root}
@@ -21,7 +21,7 @@ use Rattle.mp_meaning.specs.Programs.{Program, block_of, variable_number, result
 use Rattle.mp_meaning.specs.Configurations.{Root as Held}
 use Rattle.mp_meaning.specs.Configurations.{holder, find_activation, live_cells, Activation, Configuration, without_root, ended_in, ended_until}
 use Rattle.mp_meaning.specs.Outcomes.{Outcome, Done, Jump, Fault, Limit, Hole, Paused, Spent, Wrong, Action, bind, ◌>>=◌, ◌>>◌, needs, unless, choose, skip, limit, wrong}
-use Rattle.mp_meaning.specs.Calls.{Self, Task, Body, activation_at, block_in, variable_at, result_at, routine_of, count, entered, enter, must_have_room, hole, variables_of, call_block, call, left_behind, outward, leave_procedure, leave_function}
+use Rattle.mp_meaning.specs.Calls.{Self, Task, Body, activation_at, block_in, variable_at, result_at, routine_of, count, entered, enter, must_have_room, hole, variables_of, call_block, call, left_behind, outward, leave_newest, leave_procedure, leave_function}
 use Rattle.mp_meaning.specs.Expressions.{goes_through, load, root_of, eval, eval_chain, eval_members, eval_actuals, walk, form, eval_number}
 use Rattle.mp_meaning.specs.Operators.{stands_in, is_true}
 use Rattle.mp_meaning.proofs.SteadyVariables.{number_steady, with_number_steady, members_steady, pointer_steady, reference_steady, defined_steady, held_steady, read_steady, must_fit_steady, pass_all_steady, object_steady, operate_steady, boolean_steady, sign_steady, part_steady, scalar_steady, routine_value_steady, compare_steady, with_member_steady, with_members_steady, apply_steady, ask_steady}
@@ -196,15 +196,17 @@ found_live (x ∷ older) r a e = by (nat_eq x.number r) e
     by true e = refl
     by false e = live_in older e
 
+newest_steady : {closed : Path → Bool} → Steady closed leave_newest
+newest_steady = record { by = λ c. update_at left_behind c (λ more. ended_more c.activations more c) (ended_goes c.activations c refl) }
+
 pub left_steady : {closed : Path → Bool} (block : PlainTypedBlock) (number : ℕ) → Steady closed (leave_procedure block number)
-left_steady block number =
-    record { by = λ c. let h = update_at left_behind c (λ more. ended_more c.activations more c) (ended_goes c.activations c refl) in record { onward = h.onward; so = h.so } }
+left_steady block number = then_steady (unless_steady (is_none (result_number block.frame)) wrong_steady) newest_steady
 
 leave_function_steady : {closed : Path → Bool} (at : ℕ) (block : PlainTypedBlock) (number : ℕ) → Steady closed (leave_function at block number)
 leave_function_steady at block number =
     bind_steady (needs_steady (result_number block.frame)) (λ i. bind_steady (variables_steady number) (λ root.
     bind_steady (part_steady root i (result_offset block.frame)) (λ r. bind_steady (held_steady at r) (λ v.
-    then_steady (left_steady block number) (bind_steady (defined_steady at v) (λ x. scalar_steady x))))))
+    then_steady newest_steady (bind_steady (defined_steady at v) (λ x. scalar_steady x))))))
 
 room_steady : {closed : Path → Bool} (at cells : ℕ) → Steady closed (must_have_room at cells)
 room_steady at cells = now_steady (λ more c. refl) (λ c.

@@ -21,7 +21,7 @@ use Rattle.mp_meaning.specs.Names.{Path}
 use Rattle.mp_meaning.specs.Forms.{cells_of}
 use Rattle.mp_meaning.specs.Programs.{Program, block_of, frame_cells}
 use Rattle.mp_meaning.specs.TypeForms.{form_of_shape}
-use Rattle.mp_meaning.specs.CheckedPrograms.{IsCheckedProgram, declared_in, IsNotWrong}
+use Rattle.mp_meaning.specs.CheckedPrograms.{IsCheckedProgram, ProceduresStand, declared_in, IsNotWrong}
 use Rattle.mp_meaning.specs.Offsets.{Stand, frame_places, field_places, PartStands, IsResultAt, AreIntegers, IfRange}
 use Rattle.mp_meaning.specs.Soundness.{FitsItsTables}
 use Rattle.mp_meaning.specs.Steps.{before_program, program}
@@ -55,6 +55,8 @@ pub record TypesAreRight (tables : List Table) (p : Program) : Type 0 where
   pub counted : (path : Path) (b : PlainTypedBlock) → block_of p path ≡ Some b →
       b.counted ≡ saturated (frame_cells p.form b.frame)
   pub cells : (t : TypeId) (x : Shape) → shape_of tables t ≡ Some x → table_cells x ≡ saturated (cells_of (p.form t))
+  -- procedures have no result
+  pub procedures : ProceduresStand tables p
   -- ordinal values are integers
   pub ordinals : (t : TypeId) (x : Shape) → shape_of tables t ≡ Some x →
       IfRange AreIntegers (check_of (record { id = Some t; shape = x }))

@@ -1,6 +1,6 @@
 -- What holds of a program whose typed trees are checked: its blocks, frames, labels and the forms of its variables are those
 -- of its tables.
-use Rattle.std.specs.Prelude.{◌≡◌, ℕ, true, false, List, [], Some, slice_get}
+use Rattle.std.specs.Prelude.{◌≡◌, ℕ, true, false, List, [], Some, None, slice_get}
 use Rattle.mp_tables.specs.declared.types.TypeId.{TypeId}
 use Rattle.mp_tables.specs.declared.types.Within.{Within}
 use Rattle.mp_tables.specs.declared.types.Slot.{Slot}
@@ -22,6 +22,8 @@ use Rattle.mp_tables.specs.StatementWalks.{label_name}
 use Rattle.mp_tables.specs.Headings.{FormalParameter}
 use Rattle.mp_tables.specs.Seen.{shape_of, heading_of, nested_at}
 use Rattle.mp_tables.specs.Variables.{sort_of}
+use Rattle.mp_tables.specs.Calls.{heading_or_none}
+use Rattle.mp_tables.specs.declared.headings.FormalKind.TheVariants as formal
 use Rattle.mp_tables.specs.Checked.{CheckedBlock}
 pub use Rattle.mp_tables.specs.Frames.{BeginsWith, declared_in, parameters_of}
 use Rattle.mp_meaning.specs.Names.{Path}
@@ -100,6 +102,18 @@ pub record IsCheckedProgram (tables : List Table) (p : Program) : Type 0 where
   -- the forms of variables are those of their types' shapes
   pub forms : (t : TypeId) → p.form t ≡ form_of_shape p.form (shape_of tables t)
   pub records : (t : TypeId) (r : RecordShape) → shape_of tables t ≡ Some (shape.Rec r) → RecordFits tables r
+
+-- ---- procedures
+
+-- A procedure has no result: the headings of procedures and of procedural parameters say so, and where one does, the frame of
+-- the
+-- block has no cell for a result.
+pub record ProceduresStand (tables : List Table) (p : Program) : Type 0 where
+  pub block : (path : Path) (b : PlainTypedBlock) → block_of p path ≡ Some b → (heading_of tables path).result ≡ None →
+      result_number b.frame ≡ None
+  pub routine : (path : Path) (n : Nested) → nested_at tables [] path ≡ Some n → n.function ≡ false → n.heading.result ≡ None
+  pub parameter : (path : Path) (n : List ℕ) (q : Parameter) → declared_in tables path n ≡ Some (decl.Param path q) →
+      q.kind ≡ formal.Procedure → (heading_or_none q.own).result ≡ None
 
 -- ---- outcomes
 

@@ -159,3 +159,18 @@ jumps_back = of_blocks (block [] (variable i ∷ []) 14 (
 
 abbrev pub GotoBackExample : Type 0
 GotoBackExample = at_step jumps_back [] 20 ≡ ended 11 (codes "3")
+
+-- ---- program p(output); label 1; var i: integer;
+-- begin i := 0; 1: if i < 3 then begin i := i + 1; goto 1 end; write(i: 1) end.
+
+abbrev pub jumps_out_of_itself : Program
+jumps_out_of_itself = of_blocks (block [] (variable i ∷ []) 14 (
+    assign 15 (own i 0 0) (number 0) then
+    tree.Labelled 1 (tree.If 19 (compare read_i relation.Less (number 3)) (tree.Compound 25 (
+    assign 26 (own i 0 0) (two read_i operator.Add (number 1)) then
+    last (tree.Goto 32 0 1)))) then
+    last (write 36 (integer_of_width read_i (Some (number 1)) ∷ []))) ∷ [])
+
+-- a goto may lead to a statement that contains it
+abbrev pub GotoAroundExample : Type 0
+GotoAroundExample = at_step jumps_out_of_itself [] 30 ≡ ended 16 (codes "3")
