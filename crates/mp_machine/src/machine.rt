@@ -1,4 +1,4 @@
-ghost use Rattle.std.specs.Prelude.{◌≡◌, ◌≤◌, ◌∷◌, ◌++◌, [], IfNone, IfOk, IfSome, None, OnErr, OnOk, Some, ℕ};
+ghost use Rattle.std.specs.Prelude.{◌≡◌, ◌≤◌, ◌∷◌, ◌++◌, [], IfNone, IfOk, IfSome, None, OnErr, OnOk, Some, is_some, ℕ};
 ghost use Rattle.std.specs.Arc.{arc_value};
 ghost use Rattle.mp_memory.specs.Roots.{roots_of};
 ghost use Rattle.mp_machine.specs.FileRows.{buffer_cell};
@@ -160,6 +160,16 @@ impl Machine {
                 None
             }
             None => None,
+        }
+    }
+
+    /// Whether the block of a path has its code loaded.
+    pub fn has_code(&self, path: &Path) -> bool
+        ensures { result ≡ is_some (code_of self.now.codes path.now) }
+    {
+        match self.codes.find(path) {
+            Some(_) => true,
+            None => false,
         }
     }
 
