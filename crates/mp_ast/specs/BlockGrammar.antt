@@ -17,7 +17,8 @@ use Rattle.mp_ast.specs.declared.blocks.StatementPart.{StatementPart}
 use Rattle.mp_ast.specs.declared.blocks.StatementPart.TheVariants.{Compound}
 use Rattle.mp_ast.specs.declared.blocks.Block.{Block}
 use Rattle.mp_ast.specs.declared.blocks.Tree.{Tree, roll-Tree}
-use Rattle.mp_ast.specs.Rules.{Rule, ◌>>=◌, ◌>>◌, ◌<$>◌, ◌<|>◌, gives, none, many, joined, separated, token, word, symbol, here, opener, deeper, one_more_declaration, with_own_ordinals}
+use Rattle.mp_ast.specs.Rules.{Rule, ◌>>=◌, ◌>>◌, ◌<$>◌, ◌<|>◌, gives, none, many, joined, separated, token, word, symbol}
+use Rattle.mp_ast.specs.Rules.{here, opener, deeper, one_more_declaration, with_own_ordinals}
 use Rattle.mp_ast.specs.LeafGrammar.{identifier, number, constant}
 use Rattle.mp_ast.specs.StatementGrammar.{sequence}
 use Rattle.mp_ast.specs.StatementGrammar as statements

@@ -1,7 +1,9 @@
 -- The blocks of a program (ISO 7185, 6.2), and where their tokens stand in its text. A block is the program's or that of
 -- one declaration; a `forward` declaration has none. Each token belongs to one block: a heading with its `;` to the
 -- enclosing block, and what follows up to the nested block's `end` to the nested one.
-use Rattle.std.specs.Prelude.{◌≡◌, ℕ, ◌+◌, Bool, true, false, ◌&&◌, List, [], ◌∷◌, ◌++◌, Option, Some, None, map, filter, find, count_by, length, slice_get, nat_eq, nat_le, nat_lt, bytes_eq, if◌then◌else◌, option_map, option_and_then}
+use Rattle.std.specs.Prelude.{◌≡◌, ℕ, ◌+◌, Bool, true, false, ◌&&◌, List, [], ◌∷◌, ◌++◌, Option, Some, None, map, filter, find}
+use Rattle.std.specs.Prelude.{count_by, length, slice_get, nat_eq, nat_le, nat_lt, bytes_eq, if◌then◌else◌, option_map}
+use Rattle.std.specs.Prelude.{option_and_then}
 use Rattle.std.specs.List.{range_with_len, IsDistinct, AllByRecursion}
 use Rattle.mp_base.specs.declared.path.PathStep.{PathStep}
 use Rattle.mp_base.specs.declared.place.At.{At}

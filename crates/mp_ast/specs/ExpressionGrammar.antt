@@ -15,7 +15,8 @@ use Rattle.mp_ast.specs.declared.expressions.Member.{Member}
 use Rattle.mp_ast.specs.declared.expressions.Operation.{Operation}
 use Rattle.mp_ast.specs.declared.expressions.Expr.{Expr}
 use Rattle.mp_ast.specs.declared.expressions.Expr.TheVariants as e
-use Rattle.mp_ast.specs.Rules.{Rule, ◌>>=◌, ◌>>◌, ◌<$>◌, ◌<|>◌, gives, none, optional, many, many_lists, separated, word, symbol, opener}
+use Rattle.mp_ast.specs.Rules.{Rule, ◌>>=◌, ◌>>◌, ◌<$>◌, ◌<|>◌, gives, none, optional, many, many_lists, separated, word}
+use Rattle.mp_ast.specs.Rules.{symbol, opener}
 use Rattle.mp_ast.specs.LeafGrammar.{identifier, number, character_string, sign}
 
 -- ---- operators

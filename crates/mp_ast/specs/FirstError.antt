@@ -38,11 +38,15 @@ pub data HasCode (limits : Limits) (kinds : List TokenKind) (index : ℕ) : ℕ 
   -- 205, text after the program
   follows_the_program : index < length kinds → HasTree limits (take index kinds) → HasCode limits kinds index 205
   -- 204, too many blocks
-  too_many_blocks : index < length kinds → Not (HasTree limits (take index kinds)) → HasTooManyDeclarations limits (take (index + 1) kinds) → HasCode limits kinds index 204
+  too_many_blocks : index < length kinds → Not (HasTree limits (take index kinds))
+      → HasTooManyDeclarations limits (take (index + 1) kinds) → HasCode limits kinds index 204
   -- 203, nested too deep
-  nested_too_deep : index < length kinds → Not (HasTree limits (take index kinds)) → Not (HasTooManyDeclarations limits (take (index + 1) kinds)) → IsTooDeep limits (take (index + 1) kinds) → HasCode limits kinds index 203
+  nested_too_deep : index < length kinds → Not (HasTree limits (take index kinds))
+      → Not (HasTooManyDeclarations limits (take (index + 1) kinds)) → IsTooDeep limits (take (index + 1) kinds)
+      → HasCode limits kinds index 203
   -- 201, syntax error
-  wrong : index < length kinds → Not (HasTree limits (take index kinds)) → Not (IsTooDeep limits (take (index + 1) kinds)) → HasCode limits kinds index 201
+  wrong : index < length kinds → Not (HasTree limits (take index kinds))
+      → Not (IsTooDeep limits (take (index + 1) kinds)) → HasCode limits kinds index 201
 
 -- The first error of a list without a tree: a program begins with the tokens before it, and none with it as well. At
 -- the end there is no token more.

@@ -1,5 +1,6 @@
 -- Where in a text the leaves of its tree stand, and that they tell of each identifier in it.
-use Rattle.std.specs.Prelude.{◌≡◌, ℕ, ◌+◌, ◌<◌, ◌≤◌, Bool, true, ◌&&◌, List, [], ◌∷◌, Some, count_by, slice_get, nat_eq, if◌then◌else◌}
+use Rattle.std.specs.Prelude.{◌≡◌, ℕ, ◌+◌, ◌<◌, ◌≤◌, Bool, true, ◌&&◌, List, [], ◌∷◌, Some, count_by, slice_get, nat_eq}
+use Rattle.std.specs.Prelude.{if◌then◌else◌}
 use Rattle.std.specs.List.{AllByRecursion}
 use Rattle.mp_ast.specs.declared.tokens.TokenKind.{TokenKind}
 use Rattle.mp_ast.specs.declared.tokens.TokenKind.TheVariants.{Id}

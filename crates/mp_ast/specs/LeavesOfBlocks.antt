@@ -17,7 +17,8 @@ use Rattle.mp_ast.specs.PlainStatements.{PlainStatement, PlainStatements, PlainA
 use Rattle.mp_ast.specs.PlainTypes.{PlainDenoter, PlainIndices, PlainSections, PlainVariants}
 use Rattle.mp_ast.specs.PlainHeadings.{PlainFormalSection, PlainFormals, PlainHeading}
 use Rattle.mp_ast.specs.PlainTrees.{PlainTypeDefinition, PlainDeclaration, PlainStatementPart, PlainBlock}
-use Rattle.mp_ast.specs.Leaves.{Leaf, Name, Forward, Mark, Before, number_leaf, leaves_of_constant, leaves_of_constants, leaves_of_names, leaves_of_expression, leaves_of_access, leaves_of_actuals}
+use Rattle.mp_ast.specs.Leaves.{Leaf, Name, Forward, Mark, Before, number_leaf, leaves_of_constant, leaves_of_constants}
+use Rattle.mp_ast.specs.Leaves.{leaves_of_names, leaves_of_expression, leaves_of_access, leaves_of_actuals}
 
 -- ---- statements (ISO 7185, 6.8)
 

@@ -28,7 +28,9 @@ use Rattle.mp_ast.specs.StatementGrammar.{statement}
 use Rattle.mp_ast.specs.TypeGrammar.{denoter}
 use Rattle.mp_ast.specs.HeadingGrammar.{heading}
 use Rattle.mp_ast.specs.Programs.{Derives}
-use Rattle.mp_ast.specs.Examples.{DerivesBy, a, b, c, f, i, n, p, q, plus, minus, equal, left_bracket, right_bracket, left_paren, right_paren, dot, dots, comma, colon, assign, semicolon, named, digits, variable, constant, call, type_named}
+use Rattle.mp_ast.specs.Examples.{DerivesBy, a, b, c, f, i, n, p, q, plus, minus, equal, left_bracket, right_bracket}
+use Rattle.mp_ast.specs.Examples.{left_paren, right_paren, dot, dots, comma, colon, assign, semicolon, named, digits, variable}
+use Rattle.mp_ast.specs.Examples.{constant, call, type_named}
 
 -- ---- operators: `a`, the operator, `b`
 

@@ -11,7 +11,8 @@ use Rattle.mp_ast.specs.declared.statements.ForHead.{ForHead}
 use Rattle.mp_ast.specs.declared.statements.Arm.{Arm}
 use Rattle.mp_ast.specs.declared.statements.Statement.{Statement}
 use Rattle.mp_ast.specs.declared.statements.Statement.TheVariants as t
-use Rattle.mp_ast.specs.Rules.{Rule, ◌>>=◌, ◌>>◌, ◌<$>◌, ◌<|>◌, gives, none, optional, separated, word, symbol, here, not_before, opener}
+use Rattle.mp_ast.specs.Rules.{Rule, ◌>>=◌, ◌>>◌, ◌<$>◌, ◌<|>◌, gives, none, optional, separated, word, symbol, here}
+use Rattle.mp_ast.specs.Rules.{not_before, opener}
 use Rattle.mp_ast.specs.LeafGrammar.{identifier, number, constant}
 use Rattle.mp_ast.specs.ExpressionGrammar.{expression, access, actuals}
 

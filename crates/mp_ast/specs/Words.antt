@@ -1,7 +1,10 @@
 -- How the 35 word-symbols are written (ISO 7185, 6.1.2).
 use Rattle.std.specs.Prelude.{ℕ, List, codes}
 use Rattle.mp_ast.specs.declared.words.WordSymbol.{WordSymbol}
-use Rattle.mp_ast.specs.declared.words.WordSymbol.TheVariants.{And, Array, Begin, Case, Const, Div, Do, Downto, Else, End, File, For, Function, Goto, If, In, Label, Mod, Nil, Not, Of, Or, Packed, Procedure, Program, Record, Repeat, Set, Then, To, «Type», Until, Var, While, With}
+use Rattle.mp_ast.specs.declared.words.WordSymbol.TheVariants.{And, Array, Begin, Case, Const, Div, Do, Downto, Else, End}
+use Rattle.mp_ast.specs.declared.words.WordSymbol.TheVariants.{File, For, Function, Goto, If, In, Label, Mod, Nil, Not, Of, Or}
+use Rattle.mp_ast.specs.declared.words.WordSymbol.TheVariants.{Packed, Procedure, Program, Record, Repeat, Set, Then, To}
+use Rattle.mp_ast.specs.declared.words.WordSymbol.TheVariants.{«Type», Until, Var, While, With}
 
 -- the letters of a word-symbol, in lower case
 abbrev pub spelling : WordSymbol → List ℕ

@@ -1,10 +1,18 @@
 // Examples of the grammar: each function's contract is, for one chapter, a list of tokens and its tree, and what has none.
-ghost use Rattle.mp_ast.specs.Examples.{ExpressionExample, ElseExample, CaseExample, NoElseFollows, TypeExample, NoRoomForPacked, HeadingExample, ProgramExample, NoneInTheDeepest, EndsEarly, WrongFirstToken, OneTooDeep, OneTooMany, TooDeepAndTooMany, FollowsTheProgram};
+ghost use Rattle.mp_ast.specs.Examples.{ExpressionExample, ElseExample, CaseExample, NoElseFollows, TypeExample};
+ghost use Rattle.mp_ast.specs.Examples.{NoRoomForPacked, HeadingExample, ProgramExample, NoneInTheDeepest, EndsEarly};
+ghost use Rattle.mp_ast.specs.Examples.{WrongFirstToken, OneTooDeep, OneTooMany, TooDeepAndTooMany, FollowsTheProgram};
 ghost use Rattle.mp_ast.specs.declared.tokens.TokenKind.TheVariants.{Word, Symbol};
 ghost use Rattle.mp_ast.specs.declared.words.WordSymbol.TheVariants as word;
 ghost use Rattle.mp_ast.specs.declared.symbols.Symbol.TheVariants as symbol;
 ghost use Rattle.mp_ast.specs.declared.expressions.Operator.TheVariants as operator;
-ghost use Rattle.mp_ast.specs.ProductionExamples.{Relates, Adds, Multiplies, StringExample, NilExample, SignExample, NotExample, EmptySetExample, FunctionExample, ProcedureExample, GotoExample, CompoundExample, WhileExample, RepeatExample, ToExample, DowntoExample, WithExample, EnumerationExample, SignedSubrangeExample, SetExample, PackedSetExample, FileExample, PackedFileExample, PackedArrayExample, EmptyRecordExample, NoTagExample, ProceduralExample, NoResultExample, PartsExample};
+ghost use Rattle.mp_ast.specs.ProductionExamples.{Relates, Adds, Multiplies, StringExample, NilExample, SignExample};
+ghost use Rattle.mp_ast.specs.ProductionExamples.{NotExample, EmptySetExample, FunctionExample, ProcedureExample, GotoExample};
+ghost use Rattle.mp_ast.specs.ProductionExamples.{CompoundExample, WhileExample, RepeatExample, ToExample, DowntoExample};
+ghost use Rattle.mp_ast.specs.ProductionExamples.{WithExample, EnumerationExample, SignedSubrangeExample, SetExample};
+ghost use Rattle.mp_ast.specs.ProductionExamples.{PackedSetExample, FileExample, PackedFileExample, PackedArrayExample};
+ghost use Rattle.mp_ast.specs.ProductionExamples.{EmptyRecordExample, NoTagExample, ProceduralExample, NoResultExample};
+ghost use Rattle.mp_ast.specs.ProductionExamples.{PartsExample};
 
 /// A program with a forward declaration, a block in it, and the own tokens of both blocks.
 pub fn program_example()

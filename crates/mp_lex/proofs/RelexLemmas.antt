@@ -177,7 +177,7 @@ reads_first change tokens old_tokens errors old_errors text from window at e so 
     omega arith
 
 -- an old token ends, and one starts, where items of the old text end
-any_map : {X : Type 0} (test : ℕ → Bool) (f : X → ℕ) (xs : List X) → list_any test (map f xs) ≡ list_any (λ x. test (f x)) xs
+pub any_map : {X : Type 0} (test : ℕ → Bool) (f : X → ℕ) (xs : List X) → list_any test (map f xs) ≡ list_any (λ x. test (f x)) xs
 any_map test f [] = refl
 any_map test f (x ∷ xs) = ap (λ r. test (f x) || r) (any_map test f xs)
 
@@ -209,21 +209,21 @@ splits_at_end text at h = ⊎_elim
     (sym (list_any-append (λ n. eqb n at) (map token_end (lexical_tokens text)) (map error_end (lexical_errors text))) ∙ h))
 
 -- the greatest of those that pass is one of them, or there is none
-record IsOne (test : ℕ → Bool) (ns : List ℕ) (n : ℕ) : Type 0 where
-  passes : test n ≡ true
-  one : list_any (λ m. eqb m n) ns ≡ true
+pub record IsOne (test : ℕ → Bool) (ns : List ℕ) (n : ℕ) : Type 0 where
+  pub passes : test n ≡ true
+  pub one : list_any (λ m. eqb m n) ns ≡ true
 
-or_true : (b : Bool) → (b || true) ≡ true
+pub or_true : (b : Bool) → (b || true) ≡ true
 or_true true = refl
 or_true false = refl
 
-one_later : (test : ℕ → Bool) (x : ℕ) (ns : List ℕ) (n : ℕ) → IsOne test ns n → IsOne test (x ∷ ns) n
+pub one_later : (test : ℕ → Bool) (x : ℕ) (ns : List ℕ) (n : ℕ) → IsOne test ns n → IsOne test (x ∷ ns) n
 one_later test x ns n h = record { passes = h.passes; one = ap (λ b. eqb x n || b) h.one ∙ or_true (eqb x n) }
 
-one_here : (test : ℕ → Bool) (x : ℕ) (ns : List ℕ) (n : ℕ) → x ≡ n → test x ≡ true → IsOne test (x ∷ ns) n
+pub one_here : (test : ℕ → Bool) (x : ℕ) (ns : List ℕ) (n : ℕ) → x ≡ n → test x ≡ true → IsOne test (x ∷ ns) n
 one_here test x ns n e t = record { passes = ap test (sym e) ∙ t; one = ap (λ b. b || list_any (λ m. eqb m n) ns) (eq-eqb x n e) }
 
-greatest_one : (test : ℕ → Bool) (ns : List ℕ) → (greatest (filter test ns) ≡ 0) ⊎ IsOne test ns (greatest (filter test ns))
+pub greatest_one : (test : ℕ → Bool) (ns : List ℕ) → (greatest (filter test ns) ≡ 0) ⊎ IsOne test ns (greatest (filter test ns))
 greatest_one test [] = inl refl
 greatest_one test (x ∷ ns) = of (greatest_one test ns)
   where

@@ -8,5 +8,6 @@ pub mod Lexed
 pub mod Order
 pub mod Lengths
 pub mod Relexing
+pub mod RoundChange
 pub mod Windows
 pub mod FirstLetters

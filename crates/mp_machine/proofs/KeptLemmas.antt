@@ -2,6 +2,8 @@
 use Rattle.std.proofs.Common.{◌≡◌, ◌∙◌, ◌<◌, ◌||◌, ℕ, Bool, true, false, List, ◌∷◌, ap, refl, reverse, subst, sym, ◌+◌, ◌≤◌}
 use Rattle.std.specs.List.{fold}
 use Rattle.mp_base.specs.declared.limits.TheConstants.{CELL_LIMIT}
+use Rattle.mp_code.specs.declared.check.TheConstants.{OPERAND_LIMIT}
+use Rattle.std.specs.Prelude.{vec_capacity}
 use Rattle.std.specs.Prelude.{nat_eq}
 use Rattle.std.proofs.lemmas.Bool.{eqb-true, ne_eqb}
 use Rattle.mp_machine.specs.declared.activations.Activation.{Activation}
@@ -16,6 +18,7 @@ unmoved_two m n o a b = record {
   number = b.number ∙ a.number;
   below = b.below ∙ a.below;
   own = λ l. b.own (a.own l);
+  spare = λ n l. b.spare n (a.spare n l);
   used = b.used ∙ a.used;
   block = b.block ∙ a.block;
   cells = b.cells ∙ a.cells;
@@ -82,4 +85,5 @@ sound_kept m n kept s = record {
   counts = kept.used ∙ s.counts ∙ ap (λ c. fold (λ k a. k + a.cells) (0 + c) (reverse m.older.items)) (sym kept.cells)
       ∙ ap (λ o. fold (λ k a. k + a.cells) (0 + n.newest.cells) (reverse o)) (sym kept.older);
   bound = subst (λ u. u ≤ CELL_LIMIT) (sym kept.used) s.bound;
+  room = kept.spare (n.newest.below + OPERAND_LIMIT) (subst (λ b. b + OPERAND_LIMIT ≤ vec_capacity m.operands) (sym kept.below) s.room);
 }

@@ -6,7 +6,7 @@ use Rattle.std.proofs.lemmas.List.{drop_more}
 use Rattle.std.proofs.lemmas.Option.{slice_get_within, get_or_from_slice_get, slice_get_read, slice_get-map}
 use Rattle.std.specs.Arc.{arc_value}
 use Rattle.std.specs.Option.{option_map}
-use Rattle.std.proofs.lemmas.Bool.{and_parts, eqb-true}
+use Rattle.std.proofs.lemmas.Bool.{and_parts, eq-eqb, eqb-true}
 use Rattle.std.proofs.lemmas.Slice.Eq.{bytes_eq-Decides}
 use Rattle.mp_code.specs.BlockCode.{BlockCode}
 use Rattle.mp_machine.specs.Blocks.{Path, same_path}
@@ -28,6 +28,13 @@ same_path_is (s ∷ p) (t ∷ q) e =
     let nth : s.nth ≡ t.nth = eqb-true s.nth t.nth inner.1 in
     let more : p ≡ q = same_path_is p q outer.1 in
     λ i. record { name = name i; nth = nth i } ∷ more i
+
+self_name : (xs : List ℕ) → bytes_eq xs xs ≡ true
+self_name xs = grind (arith, bytes_eq-Decides)
+
+pub same_path_self : (p : Path) → same_path p p ≡ true
+same_path_self [] = refl
+same_path_self (s ∷ p) = rw (self_name s.name, eq-eqb s.nth s.nth refl, same_path_self p) refl
 
 drop_one : (codes : Codes) (k : ℕ) (l : Loaded) → slice_get codes k ≡ Some l → drop k codes ≡ l ∷ drop (k + 1) codes
 drop_one codes k l e = drop_more codes k l (slice_get_within codes k l e) ∙

@@ -2,6 +2,7 @@
 -- rows consist keep it. The rows of calls and of `New` add to these.
 use Rattle.std.proofs.Common.{◌≡◌, ℕ, zero, suc, ◌+◌, ◌*◌, List, [], ◌∷◌, ◌++◌, Option, Some, None, Bool, true, false, refl}
 use Rattle.std.proofs.Common.{sym, ap, subst}
+use Rattle.std.specs.List.{list_all}
 use Rattle.std.specs.Prelude.{nat_eq, nat_le, nat_lt, ◌&&◌, slice_get, slice_set, length, map, ℤ, pos, ◌+ℤ◌, ◌-ℤ◌, ◌*ℤ◌, int_lt}
 use Rattle.std.specs.Prelude.{int_div}
 use Rattle.mp_code.specs.declared.instructions.Operation.{Operation}
@@ -23,7 +24,7 @@ use Rattle.mp_files.specs.declared.items.Item.{Item}
 use Rattle.mp_files.specs.declared.items.Item.TheVariants.{Character, LineEnd}
 use Rattle.mp_files.specs.TextFiles.{TextFile, FileCall, Gives, Fails, closed_file, write_items, shown, page_items}
 use Rattle.mp_files.specs.TextFiles as text
-use Rattle.mp_files.specs.WrittenFields.{character_field, width_of, width_refusal}
+use Rattle.mp_files.specs.WrittenFields.{width_refusal}
 use Rattle.mp_files.specs.declared.causes.FileEnd.{FileEnd}
 use Rattle.mp_files.specs.declared.causes.FileEnd.TheVariants as end
 use Rattle.mp_base.specs.declared.limits.TheConstants.{OUTPUT_LIMIT}
@@ -471,9 +472,6 @@ module _ (R : State → State → Type 0) (P : Path → Type 0) (h : Keeping R) 
   file_of_kept None = gives_kept closed_file
   file_of_kept (Some k) = looks_kept (λ s. needs_kept (slice_get s.files k))
 
-  file_in_kept : (a : Address) → Kept (files.file_in a)
-  file_in_kept a = bind_kept (file_number_kept a) (λ k. file_of_kept k)
-
   answer_kept : {A : Type 0} (c : FileCall A) → Kept (files.answer c)
   answer_kept (Gives x f) = gives_kept x
   answer_kept (Fails n) = fault_kept n
@@ -540,28 +538,39 @@ module _ (R : State → State → Type 0) (P : Path → Type 0) (h : Keeping R) 
   get_at_kept : (a : Address) → Kept (files.get_at a)
   get_at_kept a = then_kept (on_file_kept a text.get get_appends) (renew_kept a)
 
+  asked_kept : {A : Type 0} (k : Option ℕ) (question : TextFile → FileCall A) → Kept (files.asked k question)
+  asked_kept k question = bind_kept (file_of_kept k) (λ f. answer_kept (question f))
+
   must_read_kept : (a : Address) → Kept (files.must_read a)
-  must_read_kept a = ask_kept a _
+  must_read_kept a = bind_kept (file_number_kept a) (λ k. asked_kept k _)
 
   must_write_kept : (a : Address) → Kept (files.must_write a)
-  must_write_kept a = ask_kept a _
+  must_write_kept a = bind_kept (file_number_kept a) (λ k. asked_kept k _)
 
   charge_kept : (n : ℕ) → Kept (files.charge n)
   charge_kept n = looks_kept (λ s. then_kept (unless_kept (nat_le (s.written + n) OUTPUT_LIMIT) (limit_kept 4))
       (update_kept (λ t. record t { written = t.written + n }) (λ t. h.written t n)))
 
+  write_on_kept : (k : Option ℕ) (items : List Item) → Kept (files.write_on k items)
+  write_on_kept k items = then_kept (asked_kept k _) (then_kept (charge_kept (length items))
+      (result_kept k (write_items items) (writes_append items)))
+
   write_to_kept : (a : Address) (items : List Item) → Kept (files.write_to a items)
-  write_to_kept a items = then_kept (must_write_kept a) (then_kept (charge_kept (length items))
-      (on_file_kept a (write_items items) (writes_append items)))
+  write_to_kept a items = bind_kept (file_number_kept a) (λ k. write_on_kept k items)
 
   write_bytes_kept : (a : Address) (bytes : List ℕ) → Kept (files.write_bytes a bytes)
   write_bytes_kept a bytes = write_to_kept a (map Character bytes)
 
+  as_byte_kept : (n : ℤ) → Kept (files.as_byte n)
+  as_byte_kept n = choose_kept (files.is_byte n) (gives_kept (natural n)) stuck_kept
+
+  buffered_byte_kept : (a : Address) → Kept (files.buffered_byte a)
+  buffered_byte_kept a = bind_kept (reach_kept a 1) (λ b. bind_kept (cell_of_kept b)
+      (λ x. bind_kept (defined_kept x) (λ y. bind_kept (number_kept y) (λ n. as_byte_kept n))))
+
   put_file_kept : Kept files.put_file
   put_file_kept = bind_kept take_address_kept (λ a. then_kept (must_write_kept a)
-      (bind_kept (reach_kept a 1) (λ b. bind_kept (cell_of_kept b)
-      (λ x. bind_kept (defined_kept x) (λ y. bind_kept (number_kept y) (λ n.
-      then_kept (write_bytes_kept a (natural n ∷ [])) (renew_kept a)))))))
+      (bind_kept (buffered_byte_kept a) (λ b. then_kept (write_bytes_kept a (b ∷ [])) (renew_kept a))))
 
   refuse_kept : (o : Option FileEnd) → Kept (files.refuse o)
   refuse_kept None = skip_kept
@@ -569,21 +578,37 @@ module _ (R : State → State → Type 0) (P : Path → Type 0) (h : Keeping R) 
   refuse_kept (Some (end.Limit number)) = limit_kept number
   refuse_kept (Some end.Memory) = stuck_kept
 
-  write_field_kept : (a : Address) (width : ℤ) (bytes : ℕ → List ℕ) → Kept (files.write_field a width bytes)
-  write_field_kept a width bytes = then_kept (refuse_kept (width_refusal width)) (write_bytes_kept a (bytes (width_of width)))
+  field_kept : (width : ℤ) (bytes : List ℕ) → Kept (files.refuse (width_refusal width) >> gives bytes)
+  field_kept width bytes = then_kept (refuse_kept (width_refusal width)) (gives_kept bytes)
 
-  write_number_kept : (field : ℤ → ℕ → List ℕ) → Kept (files.write_number field)
-  write_number_kept field = bind_kept take_number_kept (λ width. bind_kept take_number_kept
-      (λ n. bind_kept take_address_kept (λ a. write_field_kept a width (field n))))
+  integer_to_kept : (a : Address) (n width : ℤ) → Kept (files.write_integer_to a n width)
+  integer_to_kept a n width = bind_kept (field_kept width _) (λ field. write_bytes_kept a field)
+
+  truth_to_kept : (a : Address) (n width : ℤ) → Kept (files.write_truth_to a n width)
+  truth_to_kept a n width = bind_kept (field_kept width _) (λ field. write_bytes_kept a field)
+
+  characters_to_kept : (a : Address) (characters : List ℕ) (width : ℤ) → Kept (files.write_characters_to a characters width)
+  characters_to_kept a characters width = bind_kept (field_kept width _) (λ field. write_bytes_kept a field)
+
+  character_to_kept : (a : Address) (n width : ℤ) → Kept (files.write_character_to a n width)
+  character_to_kept a n width = bind_kept (as_byte_kept n) (λ b. characters_to_kept a (b ∷ []) width)
+
+  write_number_kept : (write : Address → ℤ → ℤ → Row) → ((a : Address) (n width : ℤ) → Kept (write a n width)) →
+      Kept (files.write_number write)
+  write_number_kept write g = bind_kept take_number_kept (λ width. bind_kept take_number_kept
+      (λ n. bind_kept take_address_kept (λ a. g a n width)))
 
   defined_string_kept : (o : Option (List ℕ)) → Kept (files.defined_string o)
   defined_string_kept None = fault_kept 9
   defined_string_kept (Some bytes) = gives_kept bytes
 
-  write_chars_kept : Kept files.write_chars
-  write_chars_kept = bind_kept take_number_kept (λ width. bind_kept take_block_kept (λ xs. bind_kept take_address_kept
-      (λ a. bind_kept (defined_string_kept (value.characters_of xs)) (λ bytes. write_field_kept a width
-      (λ w. character_field w bytes)))))
+  as_bytes_kept : (characters : List ℕ) → Kept (files.as_bytes characters)
+  as_bytes_kept characters = choose_kept (list_all (λ n. nat_lt n 256) characters) (gives_kept characters) stuck_kept
+
+  write_string_kept : Kept files.write_string
+  write_string_kept = bind_kept take_number_kept (λ width. bind_kept take_block_kept (λ xs. bind_kept take_address_kept
+      (λ a. bind_kept (bind_kept (defined_string_kept (value.characters_of xs)) (λ cs. as_bytes_kept cs))
+      (λ bytes. characters_to_kept a bytes width))))
 
   read_char_kept : Kept files.read_char
   read_char_kept = bind_kept take_address_kept (λ a. then_kept (must_read_kept a)
@@ -600,14 +625,15 @@ module _ (R : State → State → Type 0) (P : Path → Type 0) (h : Keeping R) 
   file_row_kept file.ReadLine = bind_kept take_address_kept (λ a. then_kept (on_file_kept a text.read_line line_appends)
       (renew_kept a))
   file_row_kept file.WriteLine = bind_kept take_address_kept (λ a. write_to_kept a (LineEnd ∷ []))
-  file_row_kept file.Page = bind_kept take_address_kept (λ a. bind_kept (file_in_kept a) (λ f. write_to_kept a (page_items f)))
+  file_row_kept file.Page = bind_kept take_address_kept (λ a. bind_kept (file_number_kept a)
+      (λ k. bind_kept (file_of_kept k) (λ f. write_on_kept k (page_items f))))
   file_row_kept file.ReadInt = bind_kept take_address_kept (λ a. bind_kept (on_file_kept a text.read_number number_appends)
       (λ n. then_kept (renew_kept a) (put_kept _)))
   file_row_kept file.ReadChar = read_char_kept
-  file_row_kept file.WriteInt = write_number_kept files.integer_bytes
-  file_row_kept file.WriteChar = write_number_kept files.character_bytes
-  file_row_kept file.WriteBool = write_number_kept files.truth_bytes
-  file_row_kept file.WriteChars = write_chars_kept
+  file_row_kept file.WriteInt = write_number_kept files.write_integer_to integer_to_kept
+  file_row_kept file.WriteChar = write_number_kept files.write_character_to character_to_kept
+  file_row_kept file.WriteBool = write_number_kept files.write_truth_to truth_to_kept
+  file_row_kept file.WriteChars = write_string_kept
 
   -- ---- all rows, where those that add a root keep it
 

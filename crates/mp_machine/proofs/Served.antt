@@ -1,6 +1,7 @@
 -- How many operands each row takes and puts: with as many as it takes, none wants for one.
 use Rattle.std.proofs.Common.{◌≡◌, ℕ, zero, suc, ◌+◌, ◌*◌, List, [], ◌∷◌, ◌++◌, Option, Some, None, Bool, true, false, refl}
 use Rattle.std.proofs.Common.{sym, ap, ◌∙◌, subst, arith}
+use Rattle.std.specs.List.{list_all}
 use Rattle.std.specs.Prelude.{nat_le, nat_lt, ◌&&◌, slice_get, slice_set, length, map, ℤ, ◌-ℤ◌, int_lt}
 use Rattle.mp_code.specs.declared.instructions.FileOperation.{FileOperation}
 use Rattle.mp_code.specs.declared.instructions.FileOperation.TheVariants as file
@@ -14,7 +15,7 @@ use Rattle.mp_memory.specs.Roots.{Found, Got, Dropped, Outside, cell_at, cells_a
 use Rattle.mp_machine.specs.Blocks.{Path}
 use Rattle.mp_machine.specs.Numbers.{lies_in, members_lie_in, natural}
 use Rattle.mp_machine.specs.Numbers.{may_be_member}
-use Rattle.mp_files.specs.WrittenFields.{character_field, width_of, width_refusal}
+use Rattle.mp_files.specs.WrittenFields.{width_refusal}
 use Rattle.mp_files.specs.declared.causes.FileEnd.{FileEnd}
 use Rattle.mp_files.specs.declared.causes.FileEnd.TheVariants as end
 use Rattle.mp_base.specs.declared.limits.TheConstants.{CELL_LIMIT, OUTPUT_LIMIT}
@@ -385,9 +386,6 @@ file_of_uses : {n : ℕ} (k : Option ℕ) → Uses n n (files.file_of k)
 file_of_uses None = gives_uses closed_file
 file_of_uses (Some k) = looks_uses (λ s. needs_uses (slice_get s.files k))
 
-file_in_uses : {n : ℕ} (a : Address) → Uses n n (files.file_in a)
-file_in_uses a = bind_uses (file_number_uses a) (λ k. file_of_uses k)
-
 set_file_uses : {n : ℕ} (k : Option ℕ) (f : TextFile) → Uses n n (files.set_file k f)
 set_file_uses None f = stuck_uses
 set_file_uses (Some k) f = update_uses (λ s. record s { files = slice_set s.files k f }) (λ s. refl)
@@ -423,25 +421,39 @@ begin_file_uses new = bind_uses take_address_uses (λ a. bind_uses (file_number_
 get_at_uses : {n : ℕ} (a : Address) → Uses n n (files.get_at a)
 get_at_uses a = then_uses (on_file_uses a text.get) (renew_uses a)
 
+asked_uses : {A : Type 0} {n : ℕ} (k : Option ℕ) (question : TextFile → FileCall A) → Uses n n (files.asked k question)
+asked_uses k question = bind_uses (file_of_uses k) (λ f. answer_uses (question f))
+
+must_read_uses : {n : ℕ} (a : Address) → Uses n n (files.must_read a)
+must_read_uses a = bind_uses (file_number_uses a) (λ k. asked_uses k _)
+
 must_write_uses : {n : ℕ} (a : Address) → Uses n n (files.must_write a)
-must_write_uses a = ask_uses a _
+must_write_uses a = bind_uses (file_number_uses a) (λ k. asked_uses k _)
 
 charge_uses : {n : ℕ} (bytes : ℕ) → Uses n n (files.charge bytes)
 charge_uses bytes = looks_uses (λ s. then_uses (unless_uses (nat_le (s.written + bytes) OUTPUT_LIMIT) (limit_uses 4))
     (update_uses (λ t. record t { written = t.written + bytes }) (λ t. refl)))
 
+write_on_uses : {n : ℕ} (k : Option ℕ) (items : List Item) → Uses n n (files.write_on k items)
+write_on_uses k items = then_uses (asked_uses k _) (then_uses (charge_uses (length items))
+    (bind_uses (file_of_uses k) (λ f. result_uses k (write_items items f))))
+
 write_to_uses : {n : ℕ} (a : Address) (items : List Item) → Uses n n (files.write_to a items)
-write_to_uses a items = then_uses (must_write_uses a) (then_uses (charge_uses (length items))
-    (on_file_uses a (write_items items)))
+write_to_uses a items = bind_uses (file_number_uses a) (λ k. write_on_uses k items)
 
 write_bytes_uses : {n : ℕ} (a : Address) (bytes : List ℕ) → Uses n n (files.write_bytes a bytes)
 write_bytes_uses a bytes = write_to_uses a (map Character bytes)
 
+as_byte_uses : {n : ℕ} (i : ℤ) → Uses n n (files.as_byte i)
+as_byte_uses i = choose_uses (files.is_byte i) (gives_uses (natural i)) stuck_uses
+
+buffered_byte_uses : {n : ℕ} (a : Address) → Uses n n (files.buffered_byte a)
+buffered_byte_uses a = bind_uses (reach_uses a 1) (λ b. bind_uses (cell_of_uses b)
+    (λ x. bind_uses (defined_uses x) (λ y. bind_uses (number_uses y) (λ i. as_byte_uses i))))
+
 put_file_uses : {n : ℕ} → Uses (suc n) n files.put_file
 put_file_uses = bind_uses take_address_uses (λ a. then_uses (must_write_uses a)
-    (bind_uses (reach_uses a 1) (λ b. bind_uses (cell_of_uses b)
-    (λ x. bind_uses (defined_uses x) (λ y. bind_uses (number_uses y) (λ i.
-    then_uses (write_bytes_uses a (natural i ∷ [])) (renew_uses a)))))))
+    (bind_uses (buffered_byte_uses a) (λ b. then_uses (write_bytes_uses a (b ∷ [])) (renew_uses a))))
 
 refuse_uses : {n : ℕ} (o : Option FileEnd) → Uses n n (files.refuse o)
 refuse_uses None = skip_uses
@@ -449,25 +461,42 @@ refuse_uses (Some (end.Fault number)) = fault_uses number
 refuse_uses (Some (end.Limit number)) = limit_uses number
 refuse_uses (Some end.Memory) = stuck_uses
 
-write_field_uses : {n : ℕ} (a : Address) (width : ℤ) (bytes : ℕ → List ℕ) → Uses n n (files.write_field a width bytes)
-write_field_uses a width bytes = then_uses (refuse_uses (width_refusal width)) (write_bytes_uses a (bytes (width_of width)))
+field_uses : {n : ℕ} (width : ℤ) (bytes : List ℕ) → Uses n n (files.refuse (width_refusal width) >> gives bytes)
+field_uses width bytes = then_uses (refuse_uses (width_refusal width)) (gives_uses bytes)
 
-write_number_uses : {n : ℕ} (field : ℤ → ℕ → List ℕ) → Uses (suc (suc (suc n))) n (files.write_number field)
-write_number_uses field = bind_uses take_number_uses (λ width. bind_uses take_number_uses
-    (λ i. bind_uses take_address_uses (λ a. write_field_uses a width (field i))))
+integer_to_uses : {n : ℕ} (a : Address) (i width : ℤ) → Uses n n (files.write_integer_to a i width)
+integer_to_uses a i width = bind_uses (field_uses width _) (λ field. write_bytes_uses a field)
+
+truth_to_uses : {n : ℕ} (a : Address) (i width : ℤ) → Uses n n (files.write_truth_to a i width)
+truth_to_uses a i width = bind_uses (field_uses width _) (λ field. write_bytes_uses a field)
+
+characters_to_uses : {n : ℕ} (a : Address) (characters : List ℕ) (width : ℤ) →
+    Uses n n (files.write_characters_to a characters width)
+characters_to_uses a characters width = bind_uses (field_uses width _) (λ field. write_bytes_uses a field)
+
+character_to_uses : {n : ℕ} (a : Address) (i width : ℤ) → Uses n n (files.write_character_to a i width)
+character_to_uses a i width = bind_uses (as_byte_uses i) (λ b. characters_to_uses a (b ∷ []) width)
+
+write_number_uses : {n : ℕ} (write : Address → ℤ → ℤ → Row) → ((a : Address) (i width : ℤ) → Uses n n (write a i width)) →
+    Uses (suc (suc (suc n))) n (files.write_number write)
+write_number_uses write g = bind_uses take_number_uses (λ width. bind_uses take_number_uses
+    (λ i. bind_uses take_address_uses (λ a. g a i width)))
 
 defined_string_uses : {n : ℕ} (o : Option (List ℕ)) → Uses n n (files.defined_string o)
 defined_string_uses None = fault_uses 9
 defined_string_uses (Some bytes) = gives_uses bytes
 
-write_chars_uses : {n : ℕ} → Uses (suc (suc (suc n))) n files.write_chars
-write_chars_uses = bind_uses take_number_uses (λ width. bind_uses take_block_uses (λ xs. bind_uses take_address_uses
-    (λ a. bind_uses (defined_string_uses (value.characters_of xs)) (λ bytes. write_field_uses a width
-    (λ w. character_field w bytes)))))
+as_bytes_uses : {n : ℕ} (characters : List ℕ) → Uses n n (files.as_bytes characters)
+as_bytes_uses characters = choose_uses (list_all (λ k. nat_lt k 256) characters) (gives_uses characters) stuck_uses
+
+write_string_uses : {n : ℕ} → Uses (suc (suc (suc n))) n files.write_string
+write_string_uses = bind_uses take_number_uses (λ width. bind_uses take_block_uses (λ xs. bind_uses take_address_uses
+    (λ a. bind_uses (bind_uses (defined_string_uses (value.characters_of xs)) (λ cs. as_bytes_uses cs))
+    (λ bytes. characters_to_uses a bytes width))))
 
 read_char_uses : {n : ℕ} → Uses (suc n) (suc n) files.read_char
 read_char_uses = bind_uses take_address_uses
-    (λ a. then_uses (ask_uses a _) (bind_uses (reach_uses a 1) (λ b. bind_uses (cell_of_uses b)
+    (λ a. then_uses (must_read_uses a) (bind_uses (reach_uses a 1) (λ b. bind_uses (cell_of_uses b)
     (λ x. bind_uses (defined_uses x) (λ y. then_uses (get_at_uses a) (put_uses (One y)))))))
 
 three : {n : ℕ} {act : Row} → Uses (suc (suc (suc n))) n act → Uses (3 + n) (0 + n) act
@@ -490,11 +519,11 @@ file_row_uses n file.ReadLine = one_none (bind_uses take_address_uses (λ a. the
     (renew_uses a)))
 file_row_uses n file.WriteLine = one_none (bind_uses take_address_uses (λ a. write_to_uses a (LineEnd ∷ [])))
 file_row_uses n file.Page = one_none (bind_uses take_address_uses
-    (λ a. bind_uses (file_in_uses a) (λ f. write_to_uses a (page_items f))))
+    (λ a. bind_uses (file_number_uses a) (λ k. bind_uses (file_of_uses k) (λ f. write_on_uses k (page_items f)))))
 file_row_uses n file.ReadInt = one_one (bind_uses take_address_uses (λ a. bind_uses (on_file_uses a text.read_number)
     (λ i. then_uses (renew_uses a) (put_uses _))))
 file_row_uses n file.ReadChar = one_one read_char_uses
-file_row_uses n file.WriteInt = three (write_number_uses files.integer_bytes)
-file_row_uses n file.WriteChar = three (write_number_uses files.character_bytes)
-file_row_uses n file.WriteBool = three (write_number_uses files.truth_bytes)
-file_row_uses n file.WriteChars = three write_chars_uses
+file_row_uses n file.WriteInt = three (write_number_uses files.write_integer_to integer_to_uses)
+file_row_uses n file.WriteChar = three (write_number_uses files.write_character_to character_to_uses)
+file_row_uses n file.WriteBool = three (write_number_uses files.write_truth_to truth_to_uses)
+file_row_uses n file.WriteChars = three write_string_uses

@@ -4,6 +4,7 @@
 -- widths and limit 4 on the bytes written to all files.
 use Rattle.std.specs.Prelude.{ℕ, ◌+◌, Bool, false, List, [], ◌∷◌, ◌++◌, length, map, Option, Some, None, nat_le, nat_lt, ℤ, pos}
 use Rattle.std.specs.Prelude.{slice_get, slice_set}
+use Rattle.std.specs.List.{list_all}
 use Rattle.mp_code.specs.declared.instructions.FileOperation.{FileOperation}
 use Rattle.mp_code.specs.declared.instructions.FileOperation.TheVariants as file
 use Rattle.mp_memory.specs.declared.cells.Cell.{Cell}
@@ -11,7 +12,7 @@ use Rattle.mp_memory.specs.declared.cells.Cell.TheVariants as cell
 use Rattle.mp_base.specs.declared.limits.TheConstants.{OUTPUT_LIMIT}
 use Rattle.mp_files.specs.declared.causes.FileEnd.{FileEnd}
 use Rattle.mp_files.specs.declared.causes.FileEnd.TheVariants as end
-use Rattle.mp_machine.specs.Numbers.{natural, is_true}
+use Rattle.mp_machine.specs.Numbers.{natural, is_true, lies_in}
 use Rattle.mp_files.specs.declared.items.Item.{Item}
 use Rattle.mp_files.specs.declared.items.Item.TheVariants.{Character, LineEnd}
 use Rattle.mp_files.specs.TextFiles.{TextFile, FileCall, Gives, Fails, closed_file, shown, at_item, in_writing, write_items}
@@ -44,11 +45,6 @@ file_of None = gives closed_file
 file_of (Some k) = do
   s ← now
   needs (slice_get s.files k)
-
-abbrev pub file_in : Address → Action TextFile
-file_in a = do
-  k ← file_number a
-  file_of k
 
 -- the file that was made takes the place of the old one
 abbrev pub set_file : Option ℕ → TextFile → Row
@@ -172,8 +168,13 @@ read_int = do
   put_number n
 
 -- a file that is not in reading is fault 12, the end of the file fault 11
+abbrev pub must_read_on : Option ℕ → Row
+must_read_on k = asked k (λ f. at_item f (Gives tt f))
+
 abbrev pub must_read : Address → Row
-must_read a = ask a (λ f. at_item f (Gives tt f))
+must_read a = do
+  k ← file_number a
+  must_read_on k
 
 -- Ref : number, that of the buffer variable, and then `get`
 abbrev pub read_char : Row
@@ -195,14 +196,24 @@ charge n = do
   update (λ s. record s { written = s.written + n })
 
 -- a file that is not in writing is fault 12, before limit 4
+abbrev pub must_write_on : Option ℕ → Row
+must_write_on k = asked k (λ f. in_writing f (Gives tt f))
+
 abbrev pub must_write : Address → Row
-must_write a = ask a (λ f. in_writing f (Gives tt f))
+must_write a = do
+  k ← file_number a
+  must_write_on k
+
+abbrev pub write_on : Option ℕ → List Item → Row
+write_on k items = do
+  must_write_on k
+  charge (length items)
+  on_number k (write_items items)
 
 abbrev pub write_to : Address → List Item → Row
 write_to a items = do
-  must_write a
-  charge (length items)
-  on_file a (write_items items)
+  k ← file_number a
+  write_on k items
 
 abbrev pub write_bytes : Address → List ℕ → Row
 write_bytes a bytes = write_to a (map Character bytes)
@@ -213,23 +224,45 @@ write_line = do
   a ← take_address
   write_to a (LineEnd ∷ [])
 
+abbrev pub page_on : Option ℕ → Row
+page_on k = do
+  f ← file_of k
+  write_on k (page_items f)
+
+abbrev pub page_at : Address → Row
+page_at a = do
+  k ← file_number a
+  page_on k
+
 -- Ref : none
 abbrev pub page : Row
 page = do
   a ← take_address
-  f ← file_in a
-  write_to a (page_items f)
+  page_at a
+
+-- a character that is written is a byte
+abbrev pub is_byte : ℤ → Bool
+is_byte n = lies_in (pos 0) (pos 255) n
+
+abbrev pub as_byte : ℤ → Action ℕ
+as_byte n = choose (is_byte n) (gives (natural n)) stuck
+
+-- the character in the buffer variable
+abbrev pub buffered_byte : Address → Action ℕ
+buffered_byte a = do
+  b ← buffer_of a
+  x ← cell_of b
+  y ← defined x
+  n ← as_number y
+  as_byte n
 
 -- Ref : none; the buffer variable is written, and set anew
 abbrev pub put_file : Row
 put_file = do
   a ← take_address
   must_write a
-  b ← buffer_of a
-  x ← cell_of b
-  y ← defined x
-  n ← as_number y
-  write_bytes a (natural n ∷ [])
+  character ← buffered_byte a
+  write_bytes a (character ∷ [])
   renew_buffer a
 
 -- ---- write (6.9.3): fault 14 for a width below 1, limit 3 for one above 4,096
@@ -240,40 +273,75 @@ refuse (Some (end.Fault number)) = fault number
 refuse (Some (end.Limit number)) = limit number
 refuse (Some end.Memory) = stuck
 
-abbrev pub write_field : Address → (width : ℤ) → (ℕ → List ℕ) → Row
-write_field a width bytes = do
+-- the fields of a width that is not refused
+abbrev pub integer_field_of : ℤ → (width : ℤ) → Action (List ℕ)
+integer_field_of n width = do
   refuse (width_refusal width)
-  write_bytes a (bytes (width_of width))
+  gives (integer_field (width_of width) n)
+
+abbrev pub truth_field_of : ℤ → (width : ℤ) → Action (List ℕ)
+truth_field_of n width = do
+  refuse (width_refusal width)
+  gives (truth_field (width_of width) (is_true n))
+
+abbrev pub character_field_of : List ℕ → (width : ℤ) → Action (List ℕ)
+character_field_of characters width = do
+  refuse (width_refusal width)
+  gives (character_field (width_of width) characters)
+
+abbrev pub write_integer_to : Address → ℤ → (width : ℤ) → Row
+write_integer_to a n width = do
+  field ← integer_field_of n width
+  write_bytes a field
+
+abbrev pub write_truth_to : Address → ℤ → (width : ℤ) → Row
+write_truth_to a n width = do
+  field ← truth_field_of n width
+  write_bytes a field
+
+abbrev pub write_characters_to : Address → List ℕ → (width : ℤ) → Row
+write_characters_to a characters width = do
+  field ← character_field_of characters width
+  write_bytes a field
+
+abbrev pub write_character_to : Address → ℤ → (width : ℤ) → Row
+write_character_to a n width = do
+  character ← as_byte n
+  write_characters_to a (character ∷ []) width
 
 -- Ref i width : none
-abbrev pub write_number : (ℤ → ℕ → List ℕ) → Row
-write_number field = do
+abbrev pub write_number : (Address → ℤ → (width : ℤ) → Row) → Row
+write_number write = do
   width ← take_number
   n ← take_number
   a ← take_address
-  write_field a width (field n)
+  write a n width
 
 abbrev pub defined_string : Option (List ℕ) → Action (List ℕ)
 defined_string None = fault 9
 defined_string (Some bytes) = gives bytes
 
+abbrev pub as_bytes : List ℕ → Action (List ℕ)
+as_bytes characters = choose (list_all (λ n. nat_lt n 256) characters) (gives characters) stuck
+
+-- the bytes of a string
+abbrev pub string_in : List Cell → Action (List ℕ)
+string_in xs = do
+  characters ← defined_string (characters_of xs)
+  as_bytes characters
+
+abbrev pub write_string_to : Address → List Cell → (width : ℤ) → Row
+write_string_to a xs width = do
+  bytes ← string_in xs
+  write_characters_to a bytes width
+
 -- Ref block width : none
-abbrev pub write_chars : Row
-write_chars = do
+abbrev pub write_string : Row
+write_string = do
   width ← take_number
   xs ← take_block
   a ← take_address
-  bytes ← defined_string (characters_of xs)
-  write_field a width (λ w. character_field w bytes)
-
-abbrev pub integer_bytes : ℤ → (width : ℕ) → List ℕ
-integer_bytes n width = integer_field width n
-
-abbrev pub character_bytes : ℤ → (width : ℕ) → List ℕ
-character_bytes n width = character_field width (natural n ∷ [])
-
-abbrev pub truth_bytes : ℤ → (width : ℕ) → List ℕ
-truth_bytes n width = truth_field width (is_true n)
+  write_string_to a xs width
 
 -- ---- the operations
 
@@ -289,7 +357,7 @@ file_row file.WriteLine = write_line
 file_row file.Page = page
 file_row file.ReadInt = read_int
 file_row file.ReadChar = read_char
-file_row file.WriteInt = write_number integer_bytes
-file_row file.WriteChar = write_number character_bytes
-file_row file.WriteBool = write_number truth_bytes
-file_row file.WriteChars = write_chars
+file_row file.WriteInt = write_number write_integer_to
+file_row file.WriteChar = write_number write_character_to
+file_row file.WriteBool = write_number write_truth_to
+file_row file.WriteChars = write_string

@@ -20,6 +20,8 @@ pub mod Routines
 pub mod Plays
 pub mod Shown
 pub mod Machines
+pub mod Conditions
+pub mod Answering
 pub mod Runs
 pub mod Laws
 pub mod DepthLaws

@@ -17,6 +17,10 @@ path_in (Some l) = l.path
 abbrev pub paths_of : Codes → ℕ → Path
 paths_of codes place = path_in (slice_get codes place)
 
+-- each block is found by its path: there is no other of the same path before it
+pub record AllFound (codes : Codes) : Type 0 where
+  pub each : (place : ℕ) (l : Loaded) → slice_get codes place ≡ Some l → code_of codes l.path ≡ Some l.code
+
 -- a block stands at this place, and is found by its path
 pub record IsFound (codes : Codes) (path : Path) (place : ℕ) : Type 0 where
   pub code : BlockCode

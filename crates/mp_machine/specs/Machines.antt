@@ -12,7 +12,7 @@ use Rattle.mp_machine.specs.declared.machine.Over.{Over}
 use Rattle.mp_machine.specs.declared.machine.Over.TheVariants as over
 use Rattle.mp_machine.specs.declared.processor.Processor.{Processor}
 use Rattle.mp_machine.specs.Memory.{undefined_cells}
-use Rattle.mp_machine.specs.Loads.{paths_of}
+use Rattle.mp_machine.specs.Loads.{AllFound, paths_of}
 use Rattle.mp_machine.specs.Shown.{IsLoaded, Sound, state_of}
 use Rattle.mp_machine.specs.States.{Codes, Frame, State, place_of}
 use Rattle.mp_machine.specs.Steps.{Machine}
@@ -66,9 +66,10 @@ machine_seen codes m o = record {
   over = answer_if (state_of (paths_of codes) m) o;
 }
 
--- The blocks of all live activations are loaded; and while the run goes on, what the processor keeps at hand is right.
+-- The blocks of all live activations are loaded, each block once; and while the run goes on, what the processor keeps at hand is right.
 pub record IsInside (codes : Codes) (m : Processor) (o : Option Over) : Type 0 where
   pub loaded : IsLoaded (length codes) m
+  pub found : AllFound codes
   pub sound : o ≡ None → Sound m
 
 -- the roots as a run begins

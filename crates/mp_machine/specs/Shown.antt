@@ -4,6 +4,7 @@ use Rattle.std.specs.Prelude.{◌≡◌, ℕ, ◌+◌, ◌≤◌, ◌<◌, List,
 use Rattle.std.specs.Prelude.{Result, is_some, nat_eq, Bool, sum_by, vec_len, vec_capacity}
 use Rattle.std.specs.List.{list_any}
 use Rattle.mp_base.specs.declared.limits.TheConstants.{CELL_LIMIT}
+use Rattle.mp_code.specs.declared.check.TheConstants.{OPERAND_LIMIT}
 use Rattle.mp_memory.specs.declared.cells.Cell.{Cell}
 use Rattle.mp_memory.specs.Roots.{Contents, roots_of}
 use Rattle.mp_files.specs.RunFiles.{RunFiles}
@@ -106,6 +107,7 @@ pub record Unmoved (old new : Processor) : Type 0 where
   pub number : new.newest.number ≡ old.newest.number
   pub below : new.newest.below ≡ old.newest.below
   pub own : old.newest.below ≤ vec_len old.operands → new.newest.below ≤ vec_len new.operands
+  pub spare : (n : ℕ) → n ≤ vec_capacity old.operands → n ≤ vec_capacity new.operands
   pub used : new.used ≡ old.used
   pub block : new.newest.block ≡ old.newest.block
   pub cells : new.newest.cells ≡ old.newest.cells
@@ -135,6 +137,8 @@ pub record Sound (m : Processor) : Type 0 where
   pub stacked : AreStacked m.newest.below (reverse m.older.items)
   pub counts : m.used ≡ sum_by (λ a. a.cells) (m.newest ∷ reverse m.older.items)
   pub bound : m.used ≤ CELL_LIMIT
+  -- the newest activation may have as many operands as code may have
+  pub room : m.newest.below + OPERAND_LIMIT ≤ vec_capacity m.operands
 
 -- the newest activation ends with the cell of its root as the result
 abbrev pub returned_with : (number offset : ℕ) → Row

@@ -1,7 +1,8 @@
 // Rows that call, return and leave (ISO 7185, 6.6, 6.8.2.3, 6.8.2.4).
-ghost use Rattle.std.specs.Prelude.{◌≡◌, ◌∷◌, ◌++◌, [], ◌+◌, ◌-◌, ◌^◌, ◌<◌, ◌≤◌, IfOk, OnOk, length, option_copied, reverse, slice_get, true, vec_len, ℕ};
+ghost use Rattle.std.specs.Prelude.{◌≡◌, ◌∷◌, ◌++◌, [], ◌+◌, ◌-◌, ◌^◌, ◌<◌, ◌≤◌, IfOk, OnOk, length, option_copied, reverse, slice_get, true, vec_capacity, vec_len, ℕ};
 ghost use Rattle.mp_machine.specs.Blocks.{Path as Steps};
 ghost use Rattle.mp_base.specs.declared.limits.TheConstants.{CELL_LIMIT};
+ghost use Rattle.mp_code.specs.declared.check.TheConstants.{OPERAND_LIMIT};
 ghost use Rattle.mp_memory.specs.Roots.{roots_of};
 ghost use Rattle.mp_machine.specs.CallRows as call;
 ghost use Rattle.mp_machine.specs.Loads.{paths_of};
@@ -18,7 +19,7 @@ use crate::objects::Object;
 use crate::operands::{Cells, Operand};
 use crate::processor::{Processor, Stop};
 use mp_base::{ACTIVATION_LIMIT, CELL_LIMIT, Memory, Path};
-use mp_code::Code;
+use mp_code::{Code, OPERAND_LIMIT};
 use mp_memory::{Cell, Store};
 use std::alloc::Global;
 
@@ -143,7 +144,8 @@ impl Processor {
     }
 
     /// An activation of the block, which begins with these cells. Limit 1 on live activations comes before limit 2 on live
-    /// cells.
+    /// cells. There is room then for as many operands as code may have, so that no instruction wants memory to put one.
+    #[tactic(auto, using(crate::proofs::KeptLemmas::sound_kept, crate::proofs::KeptLemmas::loaded_kept))]
     pub(crate) fn enter(
         &mut self,
         code: &Code,
@@ -169,10 +171,14 @@ impl Processor {
         {
             return Err(Stop::Limit(2));
         }
+        match self.make_room(OPERAND_LIMIT as usize) {
+            Ok(()) => {}
+            Err(Memory) => return Err(Stop::Memory),
+        }
         self.begin_block(code, block, parent, cells)
     }
 
-    // The activation begins: there is room for it.
+    // The activation begins: there is room for it and for its operands.
     fn begin_block(
         &mut self,
         code: &Code,
@@ -184,6 +190,7 @@ impl Processor {
         requires fewer { self.old.store.next < 2 ^ 64 - 1 }
         requires fit { length cells.now ≤ code.now.frame }
         requires room { self.old.used + code.now.counted ≤ CELL_LIMIT }
+        requires spare { vec_len self.old.operands + OPERAND_LIMIT ≤ vec_capacity self.old.operands }
         ensures row { (paths : ℕ → Steps) → Agrees (Done tt (call.entered code.now (paths block) parent cells.now (state_of paths self.old))) result (state_of paths self.new) }
         ensures sound { OnOk result (Sound self.new) }
         ensures loaded { (n : ℕ) → block < n → IsLoaded n self.old → IsLoaded n self.new }

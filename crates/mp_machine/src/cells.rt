@@ -3,6 +3,7 @@ ghost use Rattle.std.specs.Prelude.{◌≡◌, ℕ};
 ghost use Rattle.mp_machine.specs.Blocks.{Path as Steps};
 ghost use Rattle.mp_machine.specs.Memory as memory;
 ghost use Rattle.mp_machine.specs.Shown.{Agrees, Fits, NoMemory, Unmoved, state_of};
+ghost use Rattle.mp_machine.specs.States.{State};
 
 use crate::addresses::Address;
 use crate::objects::Object;
@@ -10,6 +11,18 @@ use crate::operands::Cells;
 use crate::processor::{Processor, Stop};
 use mp_base::Memory;
 use mp_memory::Cell;
+
+/// A cell that is read. Fault 9 where it is undefined.
+#[inline(always)]
+pub(crate) fn defined(x: Cell) -> Result<Cell, Stop>
+    ensures row { (s : State) → Agrees (memory.defined x s) result s }
+    ensures memory { NoMemory result }
+{
+    match x {
+        Cell::Undef => Err(Stop::Fault(9)),
+        x => Ok(x),
+    }
+}
 
 impl Processor {
     /// The cell under a reference. Fault 8 where its object is disposed of.

@@ -1,22 +1,26 @@
-ghost use Rattle.std.specs.Prelude.{◌≡◌, ◌≤◌, ◌∷◌, ◌++◌, [], IfNone, IfOk, None, OnErr, OnOk, ℕ};
+ghost use Rattle.std.specs.Prelude.{◌≡◌, ◌≤◌, ◌∷◌, ◌++◌, [], IfNone, IfOk, IfSome, None, OnErr, OnOk, Some, is_some, ℕ};
 ghost use Rattle.std.specs.Arc.{arc_value};
 ghost use Rattle.mp_memory.specs.Roots.{roots_of};
 ghost use Rattle.mp_machine.specs.FileRows.{buffer_cell};
 ghost use Rattle.mp_machine.specs.Machines.{answer_if, machine_in, roots_at_start, state_in};
 ghost use Rattle.mp_base.specs.declared.limits.TheConstants.{CELL_LIMIT};
 ghost use Rattle.mp_machine.specs.Blocks.{Path as Steps};
+ghost use Rattle.mp_machine.specs.declared.answers.Gone.TheVariants as gone;
+ghost use Rattle.mp_machine.specs.Conditions.{IsReady, IsStep};
 ghost use Rattle.mp_machine.specs.Shown.{IsLoaded, Sound, state_of};
 ghost use Rattle.mp_machine.specs.States.{State, code_of};
 ghost use Rattle.mp_machine.specs.Steps.{first_state, over_at_start, program_alone, start};
 ghost use Rattle.mp_machine.specs.Views.{object_root};
 
 use crate::activations::Activation;
+use crate::answers::Gone;
 use crate::calls::first_place;
 use crate::codes::LoadedBlocks;
 use crate::given_files::GivenFiles;
 use crate::processor::Processor;
+use crate::steps::{again, go_on, has_room};
 use mp_base::{CELL_LIMIT, Memory, Path};
-use mp_code::Code;
+use mp_code::{Code, OPERAND_LIMIT};
 use mp_memory::{Cell, Store};
 use std::alloc::Global;
 use std::marker::Model;
@@ -95,7 +99,7 @@ fn first_processor(alloc: Global, main: &Code, input: &[u8]) -> Result<Processor
     Ok(Processor {
         alloc,
         store,
-        operands: Vec::new(alloc),
+        operands: Vec::with_capacity(alloc, OPERAND_LIMIT as usize)?,
         newest: Activation {
             number: 1,
             block: 0,
@@ -159,6 +163,16 @@ impl Machine {
         }
     }
 
+    /// Whether the block of a path has its code loaded.
+    pub fn has_code(&self, path: &Path) -> bool
+        ensures { result ≡ is_some (code_of self.now.codes path.now) }
+    {
+        match self.codes.find(path) {
+            Some(_) => true,
+            None => false,
+        }
+    }
+
     /// The code of one block more, which must have none loaded. No block gets a number by it, and nothing else changes.
     pub fn load(&mut self, path: Path, code: Arc<Code>) -> Result<(), Memory>
         requires { code_of self.old.codes path ≡ None }
@@ -171,5 +185,43 @@ impl Machine {
             Err(Memory) => return Err(Memory),
         }
         Ok(())
+    }
+
+    /// One step: the row of the next instruction. Fault and limit stand where the newest activation is; where the called
+    /// block has no code nothing changes. `Memory` is answered only by a step that may want memory: a call, `Proc`, `New`,
+    /// `LoadMany`, `Chars`, an operation on a file, the start of a statement, and a step that meets a fault or a limit or
+    /// answers it again. After an ending, a fault, a limit or want of memory every step answers that again.
+    #[inline]
+    pub fn step(&mut self) -> Gone
+        requires { self.old.over ≡ None → IsReady self.old.codes (state_in self.old) }
+        ensures step { IsStep self.old result self.new }
+        ensures codes { self.new.codes ≡ self.old.codes }
+    {
+        if let Some(why) = self.over {
+            return again(&self.codes, &self.processor, &mut self.over, why);
+        }
+        match go_on(&self.codes, &mut self.processor, &mut self.over) {
+            Some(gone) => gone,
+            None => Gone::Memory,
+        }
+    }
+
+    /// One step where its condition is met, as `step` makes it; None exactly where it is not. Then the machine answers
+    /// `Memory` for ever.
+    pub fn step_where_ready(&mut self) -> Option<Gone>
+        ensures step { IfSome result (λ g. IsStep self.old g self.new) }
+        ensures stuck { IfNone result (self.old.over ≡ None) }
+        ensures unready { IfNone result (IsReady self.old.codes (state_in self.old) → ⊥) }
+        ensures over { IfNone result (self.new.over ≡ Some gone.Memory) }
+        ensures codes { self.new.codes ≡ self.old.codes }
+    {
+        if let Some(why) = self.over {
+            return Some(again(&self.codes, &self.processor, &mut self.over, why));
+        }
+        if !has_room(&self.codes, &self.processor) {
+            self.over = Some(Over::Memory);
+            return None;
+        }
+        go_on(&self.codes, &mut self.processor, &mut self.over)
     }
 }

@@ -1,8 +1,8 @@
 // One instruction: its row of the table.
 ghost use Rattle.std.specs.Prelude.{◌≡◌, ◌-◌, ◌^◌, ◌<◌, OnOk, false, length, true};
 ghost use Rattle.mp_machine.specs.Loads.{paths_of};
-ghost use Rattle.mp_machine.specs.Plays.{grows, is_file};
-ghost use Rattle.mp_machine.specs.Shown.{Agrees, Fits, IsLoaded, Sound, state_of};
+ghost use Rattle.mp_machine.specs.Plays.{grows, is_call, wants_memory};
+ghost use Rattle.mp_machine.specs.Shown.{Agrees, Fits, IsLoaded, NoMemory, Sound, WhereMissing, state_of};
 ghost use Rattle.mp_machine.specs.Table.{row};
 
 use crate::codes::LoadedBlocks;
@@ -11,17 +11,18 @@ use mp_code::Operation;
 use mp_memory::{Cell, MemberSet};
 
 impl Processor {
-    /// The row of an instruction that is none of a file.
+    /// The row of an instruction. Where a block is missing nothing is changed.
     #[tactic(auto, using(crate::proofs::KeptLemmas::sound_kept, crate::proofs::KeptLemmas::loaded_kept))]
     pub(crate) fn play(&mut self, codes: &LoadedBlocks, operation: &Operation) -> Result<(), Stop>
         requires sound { Sound self.old }
         requires loaded { IsLoaded (length codes.now) self.old }
         requires fewer { self.old.store.next < 2 ^ 64 - 1 }
         requires room { grows operation.now ≡ true → Fits 1 self.old }
-        requires plain { is_file operation.now ≡ false }
         ensures row { Agrees (row codes.now operation.now (state_of (paths_of codes.now) self.old)) result (state_of (paths_of codes.now) self.new) }
         ensures sound { OnOk result (Sound self.new) }
         ensures loaded { IsLoaded (length codes.now) self.new }
+        ensures unchanged { is_call operation.now ≡ true → WhereMissing result (self.new ≡ self.old) }
+        ensures memory { wants_memory operation.now ≡ false → NoMemory result }
     {
         match operation {
             Operation::Stmt => Ok(()),
@@ -100,7 +101,7 @@ impl Processor {
             Operation::Return { cell } => self.end(*cell),
             Operation::New { cells } => self.make(*cells),
             Operation::Dispose => self.dispose(),
-            Operation::File { operation: _ } => Err(Stop::Stuck),
+            Operation::File { operation } => self.play_file(*operation),
         }
     }
 }

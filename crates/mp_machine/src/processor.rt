@@ -1,6 +1,6 @@
 // What runs: live activations with their operands and cells, objects and files. Each function here is one line of the
 // table's rows; the rows of the other files are made of these.
-ghost use Rattle.std.specs.Prelude.{◌≡◌, ◌+◌, ◌^◌, ◌<◌, ◌≤◌, ℕ, suc, OnOk, vec_len};
+ghost use Rattle.std.specs.Prelude.{◌≡◌, ◌+◌, ◌^◌, ◌<◌, ◌≤◌, ℕ, suc, OnOk, vec_capacity, vec_len};
 ghost use Rattle.mp_machine.specs.Blocks.{Path as Steps};
 ghost use Rattle.mp_machine.specs.Operands as action;
 ghost use Rattle.mp_machine.specs.Outcomes.{Done};
@@ -207,19 +207,13 @@ impl Processor {
         })
     }
 
-    /// Makes room for one operand more, before an instruction that puts more than it takes. Nothing that a contract sees
-    /// changes, also where memory is wanting.
-    #[inline(always)]
-    pub fn make_room(&mut self) -> Result<(), Memory>
-        requires { self.old.newest.below ≤ vec_len self.old.operands }
+    /// Makes room for so many operands more. Nothing that a contract sees changes, also where memory is wanting.
+    pub fn make_room(&mut self, count: usize) -> Result<(), Memory>
         ensures state { (paths : ℕ → Steps) → state_of paths self.new ≡ state_of paths self.old }
         ensures kept { Unmoved self.old self.new }
-        ensures room { OnOk result (Fits 1 self.new) }
+        ensures room { OnOk result (vec_len self.new.operands + count ≤ vec_capacity self.new.operands) }
     {
-        if self.operands.len() < self.operands.capacity() {
-            return Ok(());
-        }
-        match self.operands.reserve(1) {
+        match self.operands.reserve(count) {
             Ok(()) => Ok(()),
             Err(_) => Err(Memory),
         }
@@ -231,6 +225,7 @@ impl Processor {
         requires { self.old.newest.next + 1 < 2 ^ 64 }
         ensures row { (paths : ℕ → Steps) → state_of paths self.new ≡ begun at (state_of paths self.old) }
         ensures kept { Unmoved self.old self.new }
+        ensures exact { self.new ≡ record self.old { newest = record self.old.newest { next = self.old.newest.next + 1 }; at = at } }
     {
         self.newest.next += 1;
         self.at = at;

@@ -42,7 +42,7 @@ fn holds_of_sets(relation: Relation, a: &MemberSet, b: &MemberSet) -> bool
 }
 
 // The number of a character, None where the cell is undefined.
-fn character(cell: &Cell) -> Option<u64>
+pub(crate) fn character(cell: &Cell) -> Option<u64>
     ensures { result ≡ character_of cell.now }
 {
     match cell {
@@ -57,7 +57,7 @@ fn character(cell: &Cell) -> Option<u64>
 }
 
 // Whether all cells are characters.
-fn are_characters(cells: &[Cell]) -> bool
+pub(crate) fn are_characters(cells: &[Cell]) -> bool
     ensures { result ≡ is_some (value.characters_of cells.now) }
 {
     'cells: for i in 0..cells.len() {

@@ -1,6 +1,7 @@
 // Rows that form references, and read and set cells under them (ISO 7185, 6.5, 6.8.2.2).
 ghost use Rattle.std.specs.Prelude.{◌≡◌, ◌+◌, ◌*◌, ◌-ℤ◌, ◌≤ℤ◌, ◌<◌, ◌≤◌, ◌^◌, IfNone, IfSome, ℕ};
 ghost use Rattle.mp_machine.specs.Blocks.{Path as Steps};
+ghost use Rattle.mp_machine.specs.Memory as memory;
 ghost use Rattle.mp_machine.specs.Numbers.{natural};
 ghost use Rattle.mp_machine.specs.Shown.{Agrees, Fits, NoMemory, Unmoved, state_of};
 ghost use Rattle.mp_machine.specs.ValueRows as value;
@@ -93,6 +94,17 @@ impl Processor {
         if i < low || i > high {
             return Err(Stop::Fault(4));
         }
+        self.put_component(a, low, i, size)
+    }
+
+    #[inline(always)]
+    fn put_component(&mut self, a: Address, low: i64, i: i64, size: u32) -> Result<(), Stop>
+        requires room { Fits 1 self.old }
+        requires inside { low ≤ℤ i }
+        ensures row { (paths : ℕ → Steps) → Agrees (variable.put_far (memory.beyond a (natural (i -ℤ low) * size)) (state_of paths self.old)) result (state_of paths self.new) }
+        ensures kept { Unmoved self.old self.new }
+        ensures memory { NoMemory result }
+    {
         match far_offset(a.offset, low, i, size) {
             Some(offset) => self.put_far(a.root, offset),
             None => Err(Stop::Stuck),

@@ -55,7 +55,8 @@ label_is_found : (l : ℕ) (ss : PlainTypedStatements) → list_any (nat_eq l) (
 label_is_found l tree.NoStatements e = false_true e
 label_is_found l (tree.Sequence (tree.Labelled m s) more) e = by (nat_eq l m) refl e (label_is_found l more)
   where
-    by : (b : Bool) → nat_eq l m ≡ b → (b || list_any (nat_eq l) (outermost_labels more)) ≡ true → (list_any (nat_eq l) (outermost_labels more) ≡ true → is_found (from_label l more) ≡ true) → is_found (from_label l (tree.Sequence (tree.Labelled m s) more)) ≡ true
+    by : (b : Bool) → nat_eq l m ≡ b → (b || list_any (nat_eq l) (outermost_labels more)) ≡ true →
+        (list_any (nat_eq l) (outermost_labels more) ≡ true → is_found (from_label l more) ≡ true) → is_found (from_label l (tree.Sequence (tree.Labelled m s) more)) ≡ true
     by b p q f = here (nat_eq m l) refl
       where
         swapped : (x : Bool) → nat_eq m l ≡ false → nat_eq l m ≡ x → x ≡ false
@@ -74,12 +75,14 @@ module _ (tables : List Table) where
   abbrev IsRight : Path → PlainTypedBlock → Type 0
   IsRight path b = (b.path ≡ path) × CheckedBlock tables b × FrameFits tables b.path b.frame × LabelsStand tables b
 
-  found : (path : Path) (b : PlainTypedBlock) (bs : List PlacedBlock) → CheckedBlocks tables bs → AllByRecursion (λ c. FrameFits tables c.path (typed_of c).frame) bs → AllByRecursion (λ c. LabelsStand tables (typed_of c)) bs →
+  found : (path : Path) (b : PlainTypedBlock) (bs : List PlacedBlock) → CheckedBlocks tables bs → AllByRecursion (λ c. FrameFits tables c.path (typed_of c).frame) bs →
+      AllByRecursion (λ c. LabelsStand tables (typed_of c)) bs →
       find (λ c. same_path c.path path) (map typed_of bs) ≡ Some b → IsRight path b
   found path b [] c f l e = none_some e
   found path b (x ∷ bs) c f l e = by (same_path x.path path) refl e (found path b bs c.1 f.1 l.1)
     where
-      by : (y : Bool) → same_path x.path path ≡ y → cond y (Some (typed_of x)) (find (λ z. same_path z.path path) (map typed_of bs)) ≡ Some b → (find (λ z. same_path z.path path) (map typed_of bs) ≡ Some b → IsRight path b) → IsRight path b
+      by : (y : Bool) → same_path x.path path ≡ y → cond y (Some (typed_of x)) (find (λ z. same_path z.path path) (map typed_of bs)) ≡ Some b →
+          (find (λ z. same_path z.path path) (map typed_of bs) ≡ Some b → IsRight path b) → IsRight path b
       by true k h g = subst (IsRight path) (some_inj h) (path_is x.path path k, c.0, f.0, l.0)
       by false k h g = g h
 
@@ -94,7 +97,8 @@ module _ (tables : List Table) where
           record {
             parameters = f.parameters;
             variable = λ n v d. let s = f.variable n v d in record { number = s.number; slot = s.slot; found = s.found; is = s.is; of_kind = s.of_kind; of = s.of };
-            parameter = λ n q d. let s = f.parameter n q d in record { number = s.number; parameter = s.parameter; found = s.found; is = s.is; of_kind = s.of_kind; of = s.of; own = s.own };
+            parameter = λ n q d. let s =
+                f.parameter n q d in record { number = s.number; parameter = s.parameter; found = s.found; is = s.is; of_kind = s.of_kind; of = s.of; own = s.own };
             result = λ t d. let s = f.result t d in record { number = s.number; slot = s.slot; found = s.found; is = s.is; of_kind = s.of_kind; of = s.of };
             label = λ entered l d. label_is_found l b.statements (g.3 l d);
             checked = λ entered. g.1;
@@ -108,7 +112,8 @@ whole_block (TreeOf own inside) = (typed_in (answers_of (tables_of (TreeOf own i
 
 same_path_refl : (p : Path) → same_path p p ≡ true
 same_path_refl [] = refl
-same_path_refl (s ∷ p) = ap (λ x. (x && nat_eq s.nth s.nth) && same_path p p) ((bytes_eq-Decides s.name s.name).1 refl) ∙ ap (λ x. x && same_path p p) (eq-eqb s.nth s.nth refl) ∙ same_path_refl p
+same_path_refl (s ∷ p) =
+    ap (λ x. (x && nat_eq s.nth s.nth) && same_path p p) ((bytes_eq-Decides s.name s.name).1 refl) ∙ ap (λ x. x && same_path p p) (eq-eqb s.nth s.nth refl) ∙ same_path_refl p
 
 abbrev InBlocks : Path → List PlacedBlock → Type 0
 InBlocks path [] = ⊥
@@ -122,7 +127,8 @@ has_before [] t path h = by (tables_path path t.path) refl h.1
     by false k e = none_some e
 has_before (x ∷ ts) t path h = by (tables_path path x.path) refl h.1 (has_before ts t path)
   where
-    by : (y : Bool) → tables_path path x.path ≡ y → cond y (Some x) (table_at (ts ++ t ∷ []) path) ≡ Some h.0 → (HasTable (ts ++ t ∷ []) path → HasTable ts path ⊎ (t.path ≡ path)) → HasTable (x ∷ ts) path ⊎ (t.path ≡ path)
+    by : (y : Bool) → tables_path path x.path ≡ y → cond y (Some x) (table_at (ts ++ t ∷ []) path) ≡ Some h.0 →
+        (HasTable (ts ++ t ∷ []) path → HasTable ts path ⊎ (t.path ≡ path)) → HasTable (x ∷ ts) path ⊎ (t.path ≡ path)
     by true k e f = inl (x, ap (λ z. cond z (Some x) (table_at ts path)) k)
     by false k e f = more (f (h.0, e))
       where
@@ -148,7 +154,9 @@ module _ (tables : List Table) where
   in_blocks [] path g = absurd g
   in_blocks (x ∷ bs) path g = by (same_path x.path path) refl g (in_blocks bs path)
     where
-      by : (y : Bool) → same_path x.path path ≡ y → (x.path ≡ path) ⊎ InBlocks path bs → (InBlocks path bs → (b : PlainTypedBlock) × (find (λ c. same_path c.path path) (map (typed_of tables) bs) ≡ Some b)) → (b : PlainTypedBlock) × (cond y (Some (typed_of tables x)) (find (λ c. same_path c.path path) (map (typed_of tables) bs)) ≡ Some b)
+      by : (y : Bool) → same_path x.path path ≡ y → (x.path ≡ path) ⊎ InBlocks path bs →
+          (InBlocks path bs → (b : PlainTypedBlock) × (find (λ c. same_path c.path path) (map (typed_of tables) bs) ≡ Some b)) → (b : PlainTypedBlock) ×
+          (cond y (Some (typed_of tables x)) (find (λ c. same_path c.path path) (map (typed_of tables) bs)) ≡ Some b)
       by true k g f = (typed_of tables x, refl)
       by false k (inl g) f = false_true (sym k ∙ subst (λ q. same_path x.path q ≡ true) g (same_path_refl x.path))
       by false k (inr g) f = f g
@@ -177,7 +185,8 @@ accepted_is_checked program p is missing short accepted forms =
       whole = let w = whole_block program in (w.0, ap (find (λ c. same_path c.path [])) is ∙ w.1);
       blocks = λ path n e. named path (of_block [] (blocks program) path (missing.blocks path n e));
       fits = λ path b e. block_right (tables_of program) p path b
-          (found (tables_of program) path b (blocks program) (complete_is_checked program missing short accepted) (frames_fit program accepted) (labels_found program missing accepted)
+          (found (tables_of program) path b (blocks program) (complete_is_checked program missing short accepted) (frames_fit program accepted)
+          (labels_found program missing accepted)
           (sym (ap (find (λ c. same_path c.path path)) is) ∙ e));
       forms = forms;
       records = λ t r h. record_fits (tables_of program) r (missing.shapes t (shape.Rec r) h);
@@ -199,7 +208,8 @@ parameters_typed form (f ∷ fs) (s ∷ frame) g h = (
   parameters_typed form fs frame g.1 h.1,
 )
   where
-    by : (k : FormalKind) → cells_of (slot_form form (kind.Parameter k) (parameter_type (record f { formal = record f.formal { kind = k } }))) ≡ cells_of (slot_form form (kind.Parameter k) f.formal.of)
+    by : (k : FormalKind) → cells_of (slot_form form (kind.Parameter k) (parameter_type (record f { formal = record f.formal { kind = k } }))) ≡ cells_of
+        (slot_form form (kind.Parameter k) f.formal.of)
     by formal.Value = refl
     by formal.Variable = refl
     by formal.Procedure = refl
@@ -207,7 +217,8 @@ parameters_typed form (f ∷ fs) (s ∷ frame) g h = (
 
 module _ (tables : List Table) (p : Program) where
   -- an array's component has the cells of its form
-  size_is : ((t : TypeId) (x : Shape) → shape_of tables t ≡ Some x → table_cells x ≡ saturated (cells_of (p.form t))) → (i : Option Bounds) (c : Option TypeId) (size cells : ℕ) → CompleteArray tables i c size cells → size ≡ saturated (cells_of (form_of p.form c))
+  size_is : ((t : TypeId) (x : Shape) → shape_of tables t ≡ Some x → table_cells x ≡ saturated (cells_of (p.form t))) → (i : Option Bounds) (c : Option TypeId) (size cells : ℕ) →
+      CompleteArray tables i c size cells → size ≡ saturated (cells_of (form_of p.form c))
   size_is f None c size cells k = absurd k
   size_is f (Some b) None size cells k = absurd k
   size_is f (Some b) (Some c) size cells k = k.0.2 ∙ f c k.0.0 k.0.1
@@ -226,12 +237,14 @@ accepted_fits program p is missing short accepted types =
           record {
             frame = types.frame;
             variable = λ path b e n v d.
-                let g = found tables path b (blocks program) (complete_is_checked program missing short accepted) (frames_fit program accepted) (labels_found program missing accepted) (sym (ap (find (λ c. same_path c.path path)) is) ∙ e) in
+                let g = found tables path b (blocks program) (complete_is_checked program missing short accepted) (frames_fit program accepted)
+                (labels_found program missing accepted) (sym (ap (find (λ c. same_path c.path path)) is) ∙ e) in
                 let f : FrameFits tables path b.frame = subst (λ q. FrameFits tables q b.frame) g.0 g.2 in
                 let s = f.variable n v d in
                 record { number = s.number; slot = s.slot; found = s.found; is = s.is; at = s.offset };
             parameter = λ path b e n q d.
-                let g = found tables path b (blocks program) (complete_is_checked program missing short accepted) (frames_fit program accepted) (labels_found program missing accepted) (sym (ap (find (λ c. same_path c.path path)) is) ∙ e) in
+                let g = found tables path b (blocks program) (complete_is_checked program missing short accepted) (frames_fit program accepted)
+                (labels_found program missing accepted) (sym (ap (find (λ c. same_path c.path path)) is) ∙ e) in
                 let f : FrameFits tables path b.frame = subst (λ q. FrameFits tables q b.frame) g.0 g.2 in
                 let s = f.parameter n q d in
                 record { number = s.number; slot = s.slot; found = s.found; is = s.at; at = s.offset };
@@ -243,7 +256,8 @@ accepted_fits program p is missing short accepted types =
           record {
             counted = types.counted;
             parameters = λ path b e.
-                let g = found tables path b (blocks program) (complete_is_checked program missing short accepted) (frames_fit program accepted) (labels_found program missing accepted) (sym (ap (find (λ c. same_path c.path path)) is) ∙ e) in
+                let g = found tables path b (blocks program) (complete_is_checked program missing short accepted) (frames_fit program accepted)
+                (labels_found program missing accepted) (sym (ap (find (λ c. same_path c.path path)) is) ∙ e) in
                 let f : FrameFits tables path b.frame = subst (λ q. FrameFits tables q b.frame) g.0 g.2 in
                 parameters_typed p.form (parameters_of tables path) b.frame f.parameters f.types;
             size = λ t a h. size_is tables p types.cells a.index a.component a.size a.cells (missing.shapes t (shape.Arr a) h).0;
@@ -252,6 +266,7 @@ accepted_fits program p is missing short accepted types =
             records = λ t r i s c h n k e. record_files tables p c s.of ((missing.shapes t (shape.Rec r) h).files n i s k) e;
             ordinals = types.ordinals;
           };
+      procedures = types.procedures;
     }
   where
     tables : List Table
@@ -273,4 +288,5 @@ fits_right tables p f =
       counted = f.types.counted;
       cells = f.types.cells;
       ordinals = f.types.ordinals;
+      procedures = f.procedures;
     }

@@ -75,13 +75,15 @@ any_found {A} test (y ∷ xs) e = by_test (any_found test xs) (test y) refl e
     by_test deeper false is e = deeper e
 
 -- an entry that a name finds has that name
-pub entry_found : (test : List ℕ → Entry → Bool) (n : List ℕ) (es : List (List ℕ × Entry)) (x : Entry) → each (λ e. test e.0 e.1) es ≡ true → lookup (bytes_eq n) es ≡ Some x → test n x ≡ true
+pub entry_found : (test : List ℕ → Entry → Bool) (n : List ℕ) (es : List (List ℕ × Entry)) (x : Entry) → each (λ e. test e.0 e.1) es ≡ true → lookup (bytes_eq n) es ≡ Some x →
+    test n x ≡ true
 entry_found test n [] x k e = absurd (let f : ⊥ = cc in f)
 entry_found test n (y ∷ es) x k e =
     let p = all_parts (test y.0 y.1 ∷ each (λ e. test e.0 e.1) es ∷ []) k in
     by_test p.0 (entry_found test n es x p.1.0) (bytes_eq n y.0) refl e
   where
-    by_test : test y.0 y.1 ≡ true → (lookup (bytes_eq n) es ≡ Some x → test n x ≡ true) → (b : Bool) → bytes_eq n y.0 ≡ b → cond b (Some y.1) (lookup (bytes_eq n) es) ≡ Some x → test n x ≡ true
+    by_test : test y.0 y.1 ≡ true → (lookup (bytes_eq n) es ≡ Some x → test n x ≡ true) → (b : Bool) → bytes_eq n y.0 ≡ b → cond b (Some y.1) (lookup (bytes_eq n) es) ≡ Some x →
+        test n x ≡ true
     by_test here deeper true is e =
         let d = bytes_eq-Decides n y.0 in
         let name : n ≡ y.0 = d.0 is in
@@ -127,9 +129,11 @@ formal_same a b e f g h k =
 formals_same : (a b : List Formal) → same_formals a b ≡ true → a ≡ b
 formals_same [] [] e = refl
 formals_same (a ∷ xs) (b ∷ ys) e =
-    let p = all_parts (nat_eq a.depth b.depth ∷ nat_eq a.section b.section ∷ bytes_eq a.name b.name ∷ same_kind a.kind b.kind ∷ same_type_if a.of b.of ∷ same_formals xs ys ∷ []) e in
+    let p = all_parts (nat_eq a.depth b.depth ∷ nat_eq a.section b.section ∷ bytes_eq a.name b.name ∷ same_kind a.kind b.kind ∷ same_type_if a.of b.of ∷ same_formals xs ys ∷
+    []) e in
     let d = bytes_eq-Decides a.name b.name in
-    ap (λ x. x ∷ xs) (formal_same a b (eqb-true a.depth b.depth p.0) (eqb-true a.section b.section p.1.0) (d.0 p.1.1.0) (kind_is a.kind b.kind p.1.1.1.0) (type_is a.of b.of p.1.1.1.1.0)) ∙
+    ap (λ x. x ∷ xs) (formal_same a b (eqb-true a.depth b.depth p.0) (eqb-true a.section b.section p.1.0) (d.0 p.1.1.0) (kind_is a.kind b.kind p.1.1.1.0)
+    (type_is a.of b.of p.1.1.1.1.0)) ∙
     ap (λ x. b ∷ x) (formals_same xs ys p.1.1.1.1.1.0)
 formals_same [] (n ∷ ns) e = absurd (let f : ⊥ = cc in f)
 formals_same (m ∷ ms) [] e = absurd (let f : ⊥ = cc in f)
@@ -138,7 +142,8 @@ own_same : (a b : Option Heading) → same_own a b ≡ true → a ≡ b
 own_same None None e = refl
 own_same (Some a) (Some b) e =
     let p = all_parts (same_formals a.formals b.formals ∷ same_type_if a.result b.result ∷ []) e in
-    ap (λ x. Some (record { formals = x; result = a.result })) (formals_same a.formals b.formals p.0) ∙ ap (λ x. Some (record { formals = b.formals; result = x })) (type_is a.result b.result p.1.0)
+    ap (λ x. Some (record { formals = x; result = a.result })) (formals_same a.formals b.formals p.0) ∙
+    ap (λ x. Some (record { formals = b.formals; result = x })) (type_is a.result b.result p.1.0)
 own_same None (Some b) e = absurd (let f : ⊥ = cc in f)
 own_same (Some a) None e = absurd (let f : ⊥ = cc in f)
 
@@ -167,8 +172,10 @@ declared_entry tables path n d e = by_table (table_at tables path) refl e
 -- ---- blocks
 
 module _ (tables : List Table) (p : Program) (b : PlainTypedBlock) (k : block_fits tables p b ≡ true) where
-  parts : AllTrue (begins_with (parameters_of tables b.path) b.frame ∷ each (λ e. entry_fits tables p b e.0 e.1.decl) (names_in (table_at tables b.path)) ∷ result_fits tables p b (heading_of tables b.path).result ∷ (p.is_closed b.path || block_checked tables b) ∷ [])
-  parts = all_parts (begins_with (parameters_of tables b.path) b.frame ∷ each (λ e. entry_fits tables p b e.0 e.1.decl) (names_in (table_at tables b.path)) ∷ result_fits tables p b (heading_of tables b.path).result ∷ (p.is_closed b.path || block_checked tables b) ∷ []) k
+  parts : AllTrue (begins_with (parameters_of tables b.path) b.frame ∷ each (λ e. entry_fits tables p b e.0 e.1.decl) (names_in (table_at tables b.path)) ∷
+      result_fits tables p b (heading_of tables b.path).result ∷ (p.is_closed b.path || block_checked tables b) ∷ [])
+  parts = all_parts (begins_with (parameters_of tables b.path) b.frame ∷ each (λ e. entry_fits tables p b e.0 e.1.decl) (names_in (table_at tables b.path)) ∷
+      result_fits tables p b (heading_of tables b.path).result ∷ (p.is_closed b.path || block_checked tables b) ∷ []) k
 
   entry_is : (n : List ℕ) (d : Decl) → declared_in tables b.path n ≡ Some d → entry_fits tables p b n d ≡ true
   entry_is n d e =
@@ -184,11 +191,22 @@ module _ (tables : List Table) (p : Program) (b : PlainTypedBlock) (k : block_fi
 
   parameter_is : (n : List ℕ) (q : Parameter) → entry_fits tables p b n (decl.Param b.path q) ≡ true → IsParameterSlot (parameters_of tables b.path) b.frame n q
   parameter_is n q e =
-      let i = some_is (variable_number b.frame n) (λ i. some (slice_get (parameters_of tables b.path) i) (λ f. all_true (same_kind f.formal.kind q.kind ∷ if_there q.of f.formal.of ∷ same_own f.own q.own ∷ []))) e in
-      let s = some_is (slice_get (parameters_of tables b.path) i.value) (λ f. all_true (same_kind f.formal.kind q.kind ∷ if_there q.of f.formal.of ∷ same_own f.own q.own ∷ [])) i.passes in
+      let i = some_is (variable_number b.frame n) (λ i. some (slice_get (parameters_of tables b.path) i)
+      (λ f. all_true (same_kind f.formal.kind q.kind ∷ if_there q.of f.formal.of ∷ same_own f.own q.own ∷ []))) e in
+      let s = some_is (slice_get (parameters_of tables b.path) i.value)
+      (λ f. all_true (same_kind f.formal.kind q.kind ∷ if_there q.of f.formal.of ∷ same_own f.own q.own ∷ [])) i.passes in
       let f = s.value in
       let a = all_parts (same_kind f.formal.kind q.kind ∷ if_there q.of f.formal.of ∷ same_own f.own q.own ∷ []) s.passes in
-      record { number = i.value; parameter = f; found = i.is; is = s.is; of_kind = kind_is f.formal.kind q.kind a.0; of = there_is q.of f.formal.of a.1.0; own = own_same f.own q.own a.1.1.0 }
+      record {
+        number = i.value;
+        parameter = f;
+        found = i.is;
+        is = s.is;
+        of_kind = kind_is f.formal.kind q.kind a.0;
+        of = there_is q.of f.formal.of a.1.0;
+        own =
+            own_same f.own q.own a.1.1.0;
+      }
 
   result_slot : (t : TypeId) → (heading_of tables b.path).result ≡ Some t → IsResultSlot b.frame t
   result_slot t e =
@@ -202,9 +220,11 @@ module _ (tables : List Table) (p : Program) (b : PlainTypedBlock) (k : block_fi
   or_open false c e k = k
   or_open true c e k = absurd (let f : ⊥ = cc in f)
 
-  label_is : p.is_closed b.path ≡ false → (l : ℕ) → declared_in tables b.path (label_name l) ≡ Some (decl.Label b.path standing.Outermost) → is_found (from_label l b.statements) ≡ true
+  label_is : p.is_closed b.path ≡ false → (l : ℕ) → declared_in tables b.path (label_name l) ≡ Some (decl.Label b.path standing.Outermost) →
+      is_found (from_label l b.statements) ≡ true
   label_is entered l e =
-      let any = or_open (p.is_closed b.path) (list_any (label_stands tables p b (label_name l)) (outermost_labels b.statements)) entered (entry_is (label_name l) (decl.Label b.path standing.Outermost) e) in
+      let any = or_open (p.is_closed b.path) (list_any (label_stands tables p b (label_name l)) (outermost_labels b.statements)) entered
+      (entry_is (label_name l) (decl.Label b.path standing.Outermost) e) in
       let m = any_found (label_stands tables p b (label_name l)) (outermost_labels b.statements) any in
       let q = all_parts (bytes_eq (label_name m.0) (label_name l) ∷ nat_lt m.0 10000 ∷ is_found (from_label m.0 b.statements) ∷ []) m.1 in
       let d = bytes_eq-Decides (label_name m.0) (label_name l) in
@@ -232,7 +252,8 @@ record_is tables r k =
     let p = all_parts (each (λ s. part_there r s.within) r.slots ∷ each (λ q. all_true (part_there r q.within ∷ tag_fits tables r q ∷ [])) r.parts ∷ []) k in
     record {
       within = λ i s w e f. part_is r s.within w (each_at (λ s. part_there r s.within) r.slots i s p.0 e) f;
-      outer = λ i q w e f. let a = all_parts (part_there r q.within ∷ tag_fits tables r q ∷ []) (each_at (λ q. all_true (part_there r q.within ∷ tag_fits tables r q ∷ [])) r.parts i q p.1.0 e) in part_is r q.within w a.0 f;
+      outer = λ i q w e f. let a = all_parts (part_there r q.within ∷ tag_fits tables r q ∷ [])
+          (each_at (λ q. all_true (part_there r q.within ∷ tag_fits tables r q ∷ [])) r.parts i q p.1.0 e) in part_is r q.within w a.0 f;
       tag = λ i q e.
           let a = all_parts (part_there r q.within ∷ tag_fits tables r q ∷ []) (each_at (λ q. all_true (part_there r q.within ∷ tag_fits tables r q ∷ [])) r.parts i q p.1.0 e) in
           let s = some_is (slice_get r.slots q.tag) (λ s. some s.of (is_ordinal_type tables)) a.1.0 in
@@ -247,7 +268,8 @@ mutual
   form_is : (a b : Form) → same_form a b ≡ true → a ≡ b
   form_is OneCell OneCell k = refl
   form_is FileForm FileForm k = refl
-  form_is (ArrayForm m a) (ArrayForm n b) k = let p = all_parts (nat_eq m n ∷ same_form a b ∷ []) k in ap (λ m. ArrayForm m a) (eqb-true m n p.0) ∙ ap (ArrayForm n) (form_is a b p.1.0)
+  form_is (ArrayForm m a) (ArrayForm n b) k =
+      let p = all_parts (nat_eq m n ∷ same_form a b ∷ []) k in ap (λ m. ArrayForm m a) (eqb-true m n p.0) ∙ ap (ArrayForm n) (form_is a b p.1.0)
   form_is (RecordForm a) (RecordForm b) k = ap RecordForm (forms_are a b k)
   form_is OneCell FileForm k = absurd (let f : ⊥ = cc in f)
   form_is OneCell (ArrayForm n b) k = absurd (let f : ⊥ = cc in f)
@@ -264,7 +286,8 @@ mutual
 
   forms_are : (a b : Forms) → same_forms a b ≡ true → a ≡ b
   forms_are NoForms NoForms k = refl
-  forms_are (Beside a more) (Beside b others) k = let p = all_parts (same_form a b ∷ same_forms more others ∷ []) k in ap (λ a. Beside a more) (form_is a b p.0) ∙ ap (Beside b) (forms_are more others p.1.0)
+  forms_are (Beside a more) (Beside b others) k =
+      let p = all_parts (same_form a b ∷ same_forms more others ∷ []) k in ap (λ a. Beside a more) (form_is a b p.0) ∙ ap (Beside b) (forms_are more others p.1.0)
   forms_are NoForms (Beside b others) k = absurd (let f : ⊥ = cc in f)
   forms_are (Beside a more) NoForms k = absurd (let f : ⊥ = cc in f)
 
@@ -302,17 +325,21 @@ module _ (tables : List Table) (levels : ℕ) (p : Program) (k : each (table_fit
 
   table_is : (path : Path) (t : Table) → table_at tables path ≡ Some t → TableIs path t
   table_is path t e =
-      let a = all_parts (each (λ n. some (block_of p (t.path ++ n.step ∷ [])) (λ b. true)) t.nested ∷ each (λ x. all_true (form_fits tables (suc levels) (type.Own t.path x.at) ∷ record_fits tables x.shape ∷ [])) t.shapes ∷ []) (each_found (table_fits tables levels p) (λ t. same_path path t.path) tables t k e) in
+      let a = all_parts (each (λ n. some (block_of p (t.path ++ n.step ∷ [])) (λ b. true)) t.nested ∷
+      each (λ x. all_true (form_fits tables (suc levels) (type.Own t.path x.at) ∷ record_fits tables x.shape ∷ [])) t.shapes ∷ [])
+      (each_found (table_fits tables levels p) (λ t. same_path path t.path) tables t k e) in
       record { same = path_is path t.path (find_passes (λ t. same_path path t.path) tables t e); nested = a.0; shapes = a.1.0 }
 
   nested_block : (outer : Path) (step : PathStep) (n : Nested) → nested_in tables outer step ≡ Some n → (b : PlainTypedBlock) × (block_of p (outer ++ step ∷ []) ≡ Some b)
   nested_block outer step n e = by_table (table_at tables outer) refl e
     where
-      by_table : (o : Option Table) → table_at tables outer ≡ o → option_and_then (λ t. find (λ x. same_step step x.step) t.nested) o ≡ Some n → (b : PlainTypedBlock) × (block_of p (outer ++ step ∷ []) ≡ Some b)
+      by_table : (o : Option Table) → table_at tables outer ≡ o → option_and_then (λ t. find (λ x. same_step step x.step) t.nested) o ≡ Some n → (b : PlainTypedBlock) ×
+          (block_of p (outer ++ step ∷ []) ≡ Some b)
       by_table None is e = absurd (let f : ⊥ = cc in f)
       by_table (Some t) is e =
           let h = table_is outer t is in
-          let b = some_is (block_of p (t.path ++ n.step ∷ [])) (λ b. true) (each_found (λ n. some (block_of p (t.path ++ n.step ∷ [])) (λ b. true)) (λ x. same_step step x.step) t.nested n h.nested e) in
+          let b = some_is (block_of p (t.path ++ n.step ∷ [])) (λ b. true)
+          (each_found (λ n. some (block_of p (t.path ++ n.step ∷ [])) (λ b. true)) (λ x. same_step step x.step) t.nested n h.nested e) in
           let one : step ≡ n.step = step_is step n.step (find_passes (λ x. same_step step x.step) t.nested n e) in
           (b.value, ap (λ q. block_of p (q ++ step ∷ [])) h.same ∙ ap (λ s. block_of p (t.path ++ s ∷ [])) one ∙ b.is)
 
@@ -331,13 +358,19 @@ module _ (tables : List Table) (levels : ℕ) (p : Program) (k : each (table_fit
   shape_is : (path : Path) (at : ℕ) (x : Shape) → shape_of tables (type.Own path at) ≡ Some x → ShapeIs (type.Own path at) x
   shape_is path at x e = by_table (table_at tables path) refl e
     where
-      by_shaped : (t : Table) → TableIs path t → (o : Option Shaped) → find (λ x. nat_eq x.at at) t.shapes ≡ o → option_map (λ x. x.shape) o ≡ Some x → ShapeIs (type.Own path at) x
+      by_shaped : (t : Table) → TableIs path t → (o : Option Shaped) → find (λ x. nat_eq x.at at) t.shapes ≡ o → option_map (λ x. x.shape) o ≡ Some x →
+          ShapeIs (type.Own path at) x
       by_shaped t h None is e = absurd (let f : ⊥ = cc in f)
       by_shaped t h (Some y) is e =
-          let a = all_parts (form_fits tables (suc levels) (type.Own t.path y.at) ∷ record_fits tables y.shape ∷ []) (each_found (λ x. all_true (form_fits tables (suc levels) (type.Own t.path x.at) ∷ record_fits tables x.shape ∷ [])) (λ x. nat_eq x.at at) t.shapes y h.shapes is) in
+          let a = all_parts (form_fits tables (suc levels) (type.Own t.path y.at) ∷ record_fits tables y.shape ∷ [])
+          (each_found (λ x. all_true (form_fits tables (suc levels) (type.Own t.path x.at) ∷ record_fits tables x.shape ∷ [])) (λ x. nat_eq x.at at) t.shapes y h.shapes is) in
           let number : y.at ≡ at = eqb-true y.at at (find_passes (λ x. nat_eq x.at at) t.shapes y is) in
           let same : y.shape ≡ x = cc in
-          record { form = subst (λ at. form_fits tables (suc levels) (type.Own path at) ≡ true) number (subst (λ q. form_fits tables (suc levels) (type.Own q y.at) ≡ true) (sym h.same) a.0); fields = subst (λ x. record_fits tables x ≡ true) same a.1.0 }
+          record {
+            form = subst (λ at. form_fits tables (suc levels) (type.Own path at) ≡ true) number
+                (subst (λ q. form_fits tables (suc levels) (type.Own q y.at) ≡ true) (sym h.same) a.0);
+            fields = subst (λ x. record_fits tables x ≡ true) same a.1.0;
+          }
 
       by_table : (o : Option Table) → table_at tables path ≡ o → option_and_then (λ t. shape_in t.shapes at) o ≡ Some x → ShapeIs (type.Own path at) x
       by_table None is e = absurd (let f : ⊥ = cc in f)
@@ -351,7 +384,8 @@ module _ (tables : List Table) (levels : ℕ) (p : Program) (k : each (table_fit
   stable type.Text = form_more levels (λ t. shape_of tables t) type.Text ∙ sym (form_more (suc levels) (λ t. shape_of tables t) type.Text)
   stable (type.Own path at) = by_shape (shape_of tables (type.Own path at)) refl
     where
-      by_shape : (o : Option Shape) → shape_of tables (type.Own path at) ≡ o → form_within (suc levels) (λ t. shape_of tables t) (type.Own path at) ≡ form_within (suc (suc levels)) (λ t. shape_of tables t) (type.Own path at)
+      by_shape : (o : Option Shape) → shape_of tables (type.Own path at) ≡ o → form_within (suc levels) (λ t. shape_of tables t) (type.Own path at) ≡ form_within
+          (suc (suc levels)) (λ t. shape_of tables t) (type.Own path at)
       by_shape None e =
           form_more levels (λ t. shape_of tables t) (type.Own path at) ∙ ap (form_of_shape (form_within levels (λ t. shape_of tables t))) e ∙
           sym (form_more (suc levels) (λ t. shape_of tables t) (type.Own path at) ∙ ap (form_of_shape (form_within (suc levels) (λ t. shape_of tables t))) e)
@@ -359,7 +393,8 @@ module _ (tables : List Table) (levels : ℕ) (p : Program) (k : each (table_fit
           let h = shape_is path at x e in
           form_is (form_within (suc levels) (λ t. shape_of tables t) (type.Own path at)) (form_within (suc (suc levels)) (λ t. shape_of tables t) (type.Own path at)) h.form
 
-  forms_fit : (t : TypeId) → form_within (suc (suc levels)) (λ t. shape_of tables t) t ≡ form_of_shape (form_within (suc (suc levels)) (λ t. shape_of tables t)) (shape_of tables t)
+  forms_fit : (t : TypeId) → form_within (suc (suc levels)) (λ t. shape_of tables t) t ≡ form_of_shape (form_within (suc (suc levels)) (λ t. shape_of tables t))
+      (shape_of tables t)
   forms_fit t =
       form_more (suc levels) (λ t. shape_of tables t) t ∙
       shapes_alike (form_within (suc levels) (λ t. shape_of tables t)) (form_within (suc (suc levels)) (λ t. shape_of tables t)) (shape_of tables t) stable

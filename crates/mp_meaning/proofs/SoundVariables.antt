@@ -130,7 +130,8 @@ CheckHas (check.Block cells) v = (is_structure v ≡ true) × (is_plain v ≡ tr
 abbrev pub CheckOf : Given → TypeId → Check → Type 0
 CheckOf g t fit = (x : Shape) × (shape_of g.tables t ≡ Some x) × (check_of (record { id = Some t; shape = x }) ≡ fit)
 
-check_shape : (w : World) (t : TypeId) (x : Shape) (s : Sort) (fit : Check) (v : Value) → sort_of (record { id = Some t; shape = x }) ≡ s → check_of (record { id = Some t; shape = x }) ≡ fit → SortHas w s v → CheckHas fit v
+check_shape : (w : World) (t : TypeId) (x : Shape) (s : Sort) (fit : Check) (v : Value) → sort_of (record { id = Some t; shape = x }) ≡ s →
+    check_of (record { id = Some t; shape = x }) ≡ fit → SortHas w s v → CheckHas fit v
 check_shape w t (shape.Range b) s fit v e f h = subst (λ c. CheckHas c v) f (subst (λ s. SortHas w s v) (sym e) h)
 check_shape w t (shape.Names b) s fit v e f h = subst (λ c. CheckHas c v) f (subst (λ s. SortHas w s v) (sym e) h)
 check_shape w t (shape.SetOf packed None) s fit v e f h = subst (λ c. CheckHas c v) f (subst (λ s. SortHas w s v) (sym e) h)
@@ -179,9 +180,12 @@ root_cases P roots r new q here there = by_test (nat_eq q r) refl
     by_test false e = there e
 
 -- another value of the same kind under a root
-pub sane_root : (g : Given) (w : World) (c : Configuration) (r : ℕ) (k : Kind) (new : Root) → Sane g w c → w.kind r ≡ Some k → HasKind g w k new.value → (r ≡ 0 → all_open new.value ≡ true) → Sane g w (set_root r new c)
+pub sane_root : (g : Given) (w : World) (c : Configuration) (r : ℕ) (k : Kind) (new : Root) → Sane g w c → w.kind r ≡ Some k → HasKind g w k new.value →
+    (r ≡ 0 → all_open new.value ≡ true) → Sane g w (set_root r new c)
 sane_root g w c r k new s e h opened = record {
-  values = λ q m f. root_cases (λ x. HasKind g w m x.value) c.roots r new q (λ same. let one : Some k ≡ Some m = sym e ∙ subst (λ q. w.kind q ≡ Some m) same f in let two : k ≡ m = cc in subst (λ k. HasKind g w k new.value) two h) (λ differs. s.values q m f);
+  values = λ q m f. root_cases (λ x. HasKind g w m x.value) c.roots r new q
+      (λ same. let one : Some k ≡ Some m = sym e ∙ subst (λ q. w.kind q ≡ Some m) same f in let two : k ≡ m = cc in subst (λ k. HasKind g w k new.value) two h)
+      (λ differs. s.values q m f);
   fresh = s.fresh;
   objects = s.objects;
   activations = s.activations;
@@ -203,10 +207,12 @@ module _ {g : Given} {acts : List Activation} {reach : Reach} where
   pub as_pointer_safe : {w : World} {P : World → ℕ → Type 0} (v : Value) (n : ℕ) → v ≡ Pointer n → P w n → Safe g w acts reach P (as_pointer v)
   as_pointer_safe {w} {P} v n e h = subst (λ v. Safe g w acts reach P (as_pointer v)) (sym e) (gives_safe n h)
 
-  pub as_reference_safe : {w : World} {P : World → Reference → Type 0} (v : Value) (n : Reference) → v ≡ Refers n.root n.way n.type → P w n → Safe g w acts reach P (as_reference v)
+  pub as_reference_safe : {w : World} {P : World → Reference → Type 0} (v : Value) (n : Reference) → v ≡ Refers n.root n.way n.type → P w n →
+      Safe g w acts reach P (as_reference v)
   as_reference_safe {w} {P} v n e h = subst (λ v. Safe g w acts reach P (as_reference v)) (sym e) (gives_safe n h)
 
-  pub with_number_safe : {w : World} {A : Type 0} {P : World → A → Type 0} {value : Action Value} {go : ℤ → Action A} → Safe g w acts reach (Sorted sort.Ordinal) value → ((u : World) → Later w u → (n : ℤ) → Safe g u acts reach P (go n)) → Safe g w acts reach P (with_number value go)
+  pub with_number_safe : {w : World} {A : Type 0} {P : World → A → Type 0} {value : Action Value} {go : ℤ → Action A} → Safe g w acts reach (Sorted sort.Ordinal) value →
+      ((u : World) → Later w u → (n : ℤ) → Safe g u acts reach P (go n)) → Safe g w acts reach P (with_number value go)
   with_number_safe f h = bind_safe f (λ u l v s. let x = s.by in bind_safe {P = Any} (as_number_safe v x.0 x.1 tt) (λ u' l' n any. h u' (then_later l l') n))
 
   -- ---- reading
@@ -222,8 +228,11 @@ module _ {g : Given} {acts : List Activation} {reach : Reach} where
         let x = component_has g u s.whole (c.roots r.root).value r.way k whole s.there in
         let opens : r.root ≡ 0 → all_open x.value ≡ true =
         λ first. component_open (c.roots r.root).value r.way x.value (subst (λ n. all_open (c.roots n).value ≡ true) (sym first) sane.opened) x.found in
-        (then_safe {Q = λ u v. Fits g k u v × (r.root ≡ 0 → all_open v ≡ true)} (unless_true (alike r.type (c.roots r.root).value) wrong (alike_is g s.whole r.type (c.roots r.root).value s.shape (has_shape g u s.whole (c.roots r.root).value whole))) (λ u' l' v any.
-        needs_safe {P = λ u v. Fits g k u v × (r.root ≡ 0 → all_open v ≡ true)} (component (c.roots r.root).value r.way) x.value x.found (fits_later l' (record { by = x.has }), opens))).by c sane e;
+        (then_safe {Q = λ u v. Fits g k u v × (r.root ≡ 0 → all_open v ≡ true)}
+        (unless_true (alike r.type (c.roots r.root).value) wrong
+        (alike_is g s.whole r.type (c.roots r.root).value s.shape (has_shape g u s.whole (c.roots r.root).value whole))) (λ u' l' v any.
+        needs_safe {P = λ u v. Fits g k u v × (r.root ≡ 0 → all_open v ≡ true)} (component (c.roots r.root).value r.way) x.value x.found
+        (fits_later l' (record { by = x.has }), opens))).by c sane e;
   })
 
   pub held_safe : {w : World} {k : Kind} (at : ℕ) (r : Reference) → Spot g k w r → Safe g w acts reach (Fits g k) (held at r)
@@ -250,7 +259,8 @@ module _ {g : Given} {acts : List Activation} {reach : Reach} where
 
 -- ---- setting
 
-sane_changed : (g : Given) (w : World) (c : Configuration) (k : Kind) (r : Reference) (change : Value → Value) → Sane g w c → Spot g k w r → ((v : Value) → HasKind g w k v → HasKind g w k (change v)) → (r.root ≡ 0 → KeepsOpen change) → Sane g w (with_changed r change c)
+sane_changed : (g : Given) (w : World) (c : Configuration) (k : Kind) (r : Reference) (change : Value → Value) → Sane g w c → Spot g k w r →
+    ((v : Value) → HasKind g w k v → HasKind g w k (change v)) → (r.root ≡ 0 → KeepsOpen change) → Sane g w (with_changed r change c)
 sane_changed g w c k r change sane s f opens =
     sane_root g w c r.root s.whole (record (c.roots r.root) { value = changed (c.roots r.root).value r.way change }) sane s.root
     (changed_has g w s.whole (c.roots r.root).value r.way k change (sane.values r.root s.whole s.root) s.there f)
@@ -288,7 +298,8 @@ constant_fits : (g : Given) (w : World) (t : TypeId) (ns : List ℤ) → SortOf 
 constant_fits g w t [] e = undefined_fits g w t e
 constant_fits g w t (n ∷ ns) e = number_fits g w t n e
 
-pub record_part : (g : Given) (t : TypeId) (r : RecordShape) (i : ℕ) (s : Slot) (c : TypeId) → shape_of g.tables t ≡ Some (shape.Rec r) → slice_get r.slots i ≡ Some s → s.of ≡ Some c → part_kind g (Of (Some t)) i ≡ Some (Of (Some c))
+pub record_part : (g : Given) (t : TypeId) (r : RecordShape) (i : ℕ) (s : Slot) (c : TypeId) → shape_of g.tables t ≡ Some (shape.Rec r) → slice_get r.slots i ≡ Some s →
+    s.of ≡ Some c → part_kind g (Of (Some t)) i ≡ Some (Of (Some c))
 record_part g t r i s c e f h = ap (λ o. part_of_shape o i) e ∙ ap slot_kind f ∙ ap (λ o. Some (Of o)) h
 
 -- an ordinal value is a single one
@@ -311,7 +322,8 @@ any_part : (parts : List Part) (slot : ℕ) (t : Tagging) → list_any (λ q. ta
 any_part [] slot t e = absurd (let f : ⊥ = cc in f)
 any_part (q ∷ parts) slot t e = by_test (any_part parts slot t) (tags q slot t) refl e
   where
-    by_test : (list_any (λ q. tags q slot t) parts ≡ true → FoundPart parts slot t) → (b : Bool) → tags q slot t ≡ b → (b || list_any (λ q. tags q slot t) parts) ≡ true → FoundPart (q ∷ parts) slot t
+    by_test : (list_any (λ q. tags q slot t) parts ≡ true → FoundPart parts slot t) → (b : Bool) → tags q slot t ≡ b → (b || list_any (λ q. tags q slot t) parts) ≡ true →
+        FoundPart (q ∷ parts) slot t
     by_test rec true is e = (0, q, refl, is)
     by_test rec false is e = let x = rec e in (suc x.0, x.1, x.2, x.3)
 
@@ -343,33 +355,41 @@ tag_of g t slot x e = by_shape (shape_of g.tables t) refl e
 
 module _ {g : Given} {acts : List Activation} {reach : Reach} where
   -- a part of a variable, with the tree's offset
-  pub part_is_safe : {w : World} {k q : Kind} (r : Reference) (i before : ℕ) → Spot g k w r → part_kind g k i ≡ Some q → (total g (part_kind g k) i ≤ CELL_LIMIT → before ≡ total g (part_kind g k) i) → Safe g w acts reach (λ u x. x ≡ part_of r i) (part r i before)
+  pub part_is_safe : {w : World} {k q : Kind} (r : Reference) (i before : ℕ) → Spot g k w r → part_kind g k i ≡ Some q →
+      (total g (part_kind g k) i ≤ CELL_LIMIT → before ≡ total g (part_kind g k) i) → Safe g w acts reach (λ u x. x ≡ part_of r i) (part r i before)
   part_is_safe {w} {k} {q} r i before s e same =
       let p : PartStandsAt g k r i = part_stands_at r i (whole_kind g k i q e) s in
       let within : offset r.type r.way + total g (part_kind g k) i ≤ CELL_LIMIT = p.within in
       let is : before ≡ total g (part_kind g k) i = same (omega arith) in
       let small : offset r.type r.way + before ≤ CELL_LIMIT = subst (λ n. offset r.type r.way + n ≤ CELL_LIMIT) (sym is) within in
-      then_safe (unless_true (nat_eq (leaves_before_in (component r.type r.way) i) before) wrong (subst (λ n. nat_eq n before ≡ true) (sym (p.before ∙ sym is)) (nat_eq_refl before))) (λ u l x any.
+      then_safe (unless_true (nat_eq (leaves_before_in (component r.type r.way) i) before) wrong
+      (subst (λ n. nat_eq n before ≡ true) (sym (p.before ∙ sym is)) (nat_eq_refl before))) (λ u l x any.
       then_safe (unless_true (nat_le (offset r.type r.way + before) CELL_LIMIT) wrong (nat_le_is (offset r.type r.way + before) CELL_LIMIT small)) (λ u' l' y any.
       gives_safe (part_of r i) refl))
 
-  pub part_safe : {w : World} {k q : Kind} (r : Reference) (i before : ℕ) → Spot g k w r → part_kind g k i ≡ Some q → (total g (part_kind g k) i ≤ CELL_LIMIT → before ≡ total g (part_kind g k) i) → Safe g w acts reach (Spot g q) (part r i before)
+  pub part_safe : {w : World} {k q : Kind} (r : Reference) (i before : ℕ) → Spot g k w r → part_kind g k i ≡ Some q →
+      (total g (part_kind g k) i ≤ CELL_LIMIT → before ≡ total g (part_kind g k) i) → Safe g w acts reach (Spot g q) (part r i before)
   part_safe {q} r i before s e same = weaker (part_is_safe r i before s e same) (λ u l x is. subst (Spot g q u) (sym is) (part_spot r i (spot_later l s) e))
 
   pub set_safe : {w : World} {k : Kind} (at : ℕ) (r : Reference) (v : Value) → Spot g k w r → Fits g k w v → MayStand w r v → Safe g w acts reach Any (set at r v)
   set_safe {k} at r v s f may = bind_safe (held_safe at r s) (λ u l old fits.
       let new = fits_later l f in
       then_safe (unless_true (alike old v) wrong (alike_is g k old v (has_shape g u k old fits.by) (has_shape g u k v new.by))) (λ u' l' x any.
-      update_safe (with_changed r (λ old. v)) (λ c sane. sane_changed g u' c k r (λ old. v) sane (spot_later (then_later l l') s) (λ x h. let y = fits_later l' new in y.by) (λ first x e. may u' (then_later l l') sane.files first)) (λ c. refl) tt))
+      update_safe (with_changed r (λ old. v)) (λ c sane. sane_changed g u' c k r (λ old. v) sane (spot_later (then_later l l') s) (λ x h. let y = fits_later l' new in y.by)
+      (λ first x e. may u' (then_later l l') sane.files first)) (λ c. refl) tt))
 
-  pub retag_safe : {w : World} (at : ℕ) (r : Reference) (v : Value) (slots cells : ℕ) (t c : TypeId) (fields : RecordShape) (s : Slot) → Spot g (Of (Some t)) w (whole_of r) → shape_of g.tables t ≡ Some (shape.Rec fields) → slice_get fields.slots (number_in_whole r) ≡ Some s → s.of ≡ Some c → SortOf g c sort.Ordinal → PartStands g.program.form fields (number_in_whole r) slots cells → Fits g (Of (Some c)) w v → Safe g w acts reach Any (retag at r v slots cells)
+  pub retag_safe : {w : World} (at : ℕ) (r : Reference) (v : Value) (slots cells : ℕ) (t c : TypeId) (fields : RecordShape) (s : Slot) → Spot g (Of (Some t)) w (whole_of r) →
+      shape_of g.tables t ≡ Some (shape.Rec fields) → slice_get fields.slots (number_in_whole r) ≡ Some s → s.of ≡ Some c → SortOf g c sort.Ordinal →
+      PartStands g.program.form fields (number_in_whole r) slots cells → Fits g (Of (Some c)) w v → Safe g w acts reach Any (retag at r v slots cells)
   retag_safe at r v slots cells t c fields s spot e is of ordinal stands f = bind_safe (held_safe at (whole_of r) spot) (λ u l whole fits.
       let new = fits_later l f in
       let one : IsOne (class g (Of (Some c))) = ordinal_one g c ordinal in
       let part : part_kind g (Of (Some t)) (number_in_whole r) ≡ Some (Of (Some c)) = record_part g t fields (number_in_whole r) s c e is of in
       let small : kind_cells g (Of (Some t)) ≤ CELL_LIMIT = spot_small (whole_of r) spot in
-      let can : can_retag (number_in_whole r) slots cells whole ≡ true = can_retag_is g t fields (number_in_whole r) s whole slots cells e is (subst (λ o. IsOne (class g (Of o))) (sym of) one) stands small (has_shape g u (Of (Some t)) whole fits.by) in
-      then_safe (unless_true (is_scalar v && can_retag (number_in_whole r) slots cells whole) wrong (both (is_scalar v) (can_retag (number_in_whole r) slots cells whole) (scalar_one g (Of (Some c)) v one (has_shape g u (Of (Some c)) v new.by)) can)) (λ u' l' x any.
+      let can : can_retag (number_in_whole r) slots cells whole ≡ true = can_retag_is g t fields (number_in_whole r) s whole slots cells e is
+      (subst (λ o. IsOne (class g (Of o))) (sym of) one) stands small (has_shape g u (Of (Some t)) whole fits.by) in
+      then_safe (unless_true (is_scalar v && can_retag (number_in_whole r) slots cells whole) wrong
+      (both (is_scalar v) (can_retag (number_in_whole r) slots cells whole) (scalar_one g (Of (Some c)) v one (has_shape g u (Of (Some c)) v new.by)) can)) (λ u' l' x any.
       update_safe (with_changed (whole_of r) (retagged (number_in_whole r) v slots))
       (λ c' sane. sane_changed g u' c' (Of (Some t)) (whole_of r) (retagged (number_in_whole r) v slots) sane (spot_later (then_later l l') spot)
       (λ y h. let x = fits_later l' new in retagged_has g u' (Of (Some t)) (number_in_whole r) (Of (Some c)) v slots tt part x.by y h)
@@ -377,12 +397,14 @@ module _ {g : Given} {acts : List Activation} {reach : Reach} where
 
   pub must_fit_safe : {w : World} (at : ℕ) (fit : Check) (v : Value) → CheckHas fit v → Safe g w acts reach Any (must_fit at fit v)
   must_fit_safe at (check.Range low high) v h = bind_safe {P = Any} (as_number_safe v h.0 h.1 tt) (λ u l n any. weaker (unless_fault (lies_in low high n) at 3) (λ u l v h. tt))
-  must_fit_safe at (check.Members low high) v h = bind_safe {P = Any} (as_members_safe v h.0 h.1 tt) (λ u l n any. weaker (unless_fault (members_lie_in low high n) at 3) (λ u l v h. tt))
+  must_fit_safe at (check.Members low high) v h =
+      bind_safe {P = Any} (as_members_safe v h.0 h.1 tt) (λ u l n any. weaker (unless_fault (members_lie_in low high n) at 3) (λ u l v h. tt))
   must_fit_safe at check.Pointer v h = bind_safe {P = Any} (as_pointer_safe v h.0 h.1 tt) (λ u l n any. skip_safe tt)
   must_fit_safe at (check.Block cells) v h = unless_true (is_structure v && is_plain v) wrong (both (is_structure v) (is_plain v) h.0 h.1)
 
 module _ {g : Given} {acts : List Activation} {reach : Reach} where
-  pub assign_safe : {w : World} {k : Kind} (at : ℕ) (tagging : Option Tagging) (r : Reference) (v : Value) → Spot g k w r → IsTag g tagging k w r → Fits g k w v → all_open v ≡ true → Safe g w acts reach Any (assign at tagging r v)
+  pub assign_safe : {w : World} {k : Kind} (at : ℕ) (tagging : Option Tagging) (r : Reference) (v : Value) → Spot g k w r → IsTag g tagging k w r → Fits g k w v →
+      all_open v ≡ true → Safe g w acts reach Any (assign at tagging r v)
   assign_safe at None r v s tag f opens = set_safe at r v s f (λ u l files first. opens)
   assign_safe {k} at (Some t) r v s tag f opens =
       bind_safe (held_safe at r s) (λ u l old h. choose_safe (same_variant t old v)
@@ -395,15 +417,19 @@ module _ {g : Given} {acts : List Activation} {reach : Reach} where
       let fits : RecordFits g.tables x.fields = g.is.records b.record_type x.fields x.shape_is in
       let slot = fits.tag y.number y.part y.is in
       let there : slice_get x.fields.slots (number_in_whole r) ≡ Some slot.0 = ap (slice_get x.fields.slots) (field.number ∙ sym y.tag) ∙ slot.2 in
-      let part : part_kind g (Of (Some b.record_type)) (number_in_whole r) ≡ Some (Of (Some slot.1)) = record_part g b.record_type x.fields (number_in_whole r) slot.0 slot.1 x.shape_is there slot.3 in
+      let part : part_kind g (Of (Some b.record_type)) (number_in_whole r) ≡ Some (Of (Some slot.1)) =
+      record_part g b.record_type x.fields (number_in_whole r) slot.0 slot.1 x.shape_is there slot.3 in
       let one : Some k ≡ Some (Of (Some slot.1)) = sym field.part ∙ part in
       let same : k ≡ Of (Some slot.1) = cc in
       let stands : PartStands g.program.form x.fields (number_in_whole r) t.slots t.cells =
       subst (λ n. PartStands g.program.form x.fields n t.slots t.cells) (y.tag ∙ sym field.number)
-      (subst (λ m. PartStands g.program.form x.fields y.part.tag m t.cells) y.slots (subst (PartStands g.program.form x.fields y.part.tag y.part.slots) y.counts (g.cells.parts b.record_type x.fields x.shape_is y.number y.part y.is))) in
-      retag_safe at r v t.slots t.cells b.record_type slot.1 x.fields slot.0 (spot_later l field.spot) x.shape_is there slot.3 slot.4 stands (subst (λ k. Fits g k u v) same (fits_later l f))))
+      (subst (λ m. PartStands g.program.form x.fields y.part.tag m t.cells) y.slots
+      (subst (PartStands g.program.form x.fields y.part.tag y.part.slots) y.counts (g.cells.parts b.record_type x.fields x.shape_is y.number y.part y.is))) in
+      retag_safe at r v t.slots t.cells b.record_type slot.1 x.fields slot.0 (spot_later l field.spot) x.shape_is there slot.3 slot.4 stands
+      (subst (λ k. Fits g k u v) same (fits_later l f))))
 
-  pass_safe : {w : World} (at : ℕ) (setting : Bool) (r : Reference) (x : Guard) (t : TypeId) (fields : RecordShape) → Spot g (Of (Some t)) w r → shape_of g.tables t ≡ Some (shape.Rec fields) → IsGuard g fields x → GuardStands g.program.form fields x → Safe g w acts reach Any (pass at setting r x)
+  pass_safe : {w : World} (at : ℕ) (setting : Bool) (r : Reference) (x : Guard) (t : TypeId) (fields : RecordShape) → Spot g (Of (Some t)) w r →
+      shape_of g.tables t ≡ Some (shape.Rec fields) → IsGuard g fields x → GuardStands g.program.form fields x → Safe g w acts reach Any (pass at setting r x)
   pass_safe at setting r x t fields s e h stands =
       let part = record_part g t fields x.slot h.0 h.1 e h.2 h.3 in
       bind_safe (part_is_safe r x.slot x.offset s part (λ small. field_offset g t fields x.slot x.offset e stands.0 small)) (λ u0 l0 tag is.
@@ -414,13 +440,16 @@ module _ {g : Given} {acts : List Activation} {reach : Reach} where
       (λ is. skip_safe tt)
       (λ not. choose_safe (setting && x.hidden)
       (λ sets. subst (λ r. Safe g u1 acts reach Any (retag at r (first_constant x.constants) x.slots x.cells)) (sym is)
-      (retag_safe at (part_of r x.slot) (first_constant x.constants) x.slots x.cells t h.1 fields h.0 (spot_later (then_later l0 (then_later l l1)) s) e h.2 h.3 h.4 stands.1 (record { by = constant_fits g u1 h.1 x.constants h.4 })))
+      (retag_safe at (part_of r x.slot) (first_constant x.constants) x.slots x.cells t h.1 fields h.0 (spot_later (then_later l0 (then_later l l1)) s) e h.2 h.3 h.4 stands.1
+      (record { by = constant_fits g u1 h.1 x.constants h.4 })))
       (λ not. fault_safe at 10)))))
 
 module _ {g : Given} {acts : List Activation} {reach : Reach} where
-  pub pass_all_safe : {w : World} (at : ℕ) (setting : Bool) (r : Reference) (xs : List Guard) (t : TypeId) (fields : RecordShape) → Spot g (Of (Some t)) w r → shape_of g.tables t ≡ Some (shape.Rec fields) → AreGuards g fields xs → GuardsStand g.program.form fields xs → Safe g w acts reach Any (pass_all at setting r xs)
+  pub pass_all_safe : {w : World} (at : ℕ) (setting : Bool) (r : Reference) (xs : List Guard) (t : TypeId) (fields : RecordShape) → Spot g (Of (Some t)) w r →
+      shape_of g.tables t ≡ Some (shape.Rec fields) → AreGuards g fields xs → GuardsStand g.program.form fields xs → Safe g w acts reach Any (pass_all at setting r xs)
   pass_all_safe at setting r [] t fields s e h k = skip_safe tt
-  pass_all_safe at setting r (x ∷ xs) t fields s e h k = then_safe (pass_safe at setting r x t fields s e h.0 k.0) (λ u l v any. pass_all_safe at setting r xs t fields (spot_later l s) e h.1 k.1)
+  pass_all_safe at setting r (x ∷ xs) t fields s e h k =
+      then_safe (pass_safe at setting r x t fields s e h.0 k.0) (λ u l v any. pass_all_safe at setting r xs t fields (spot_later l s) e h.1 k.1)
 
 -- ---- pointers
 
@@ -428,15 +457,28 @@ abbrev object_by : Option Object → Option ℕ
 object_by o = elim o as (λ o. Option ℕ) [ None ↦ None | Some x ↦ Some x.root ]
 
 -- the variable that an object is
-pub object_spot : (g : Given) (w : World) (c : Configuration) (root : ℕ) (k : Kind) → Sane g w c → w.kind root ≡ Some k → Spot g k w (record { root = root; way = []; type = cleared (c.roots root).value })
-object_spot g w c root k sane e = record { whole = k; root = e; there = refl; shape = cleared_shape g k (c.roots root).value (has_shape g w k (c.roots root).value (sane.values root k e)); small = sane.small root k e }
+pub object_spot : (g : Given) (w : World) (c : Configuration) (root : ℕ) (k : Kind) → Sane g w c → w.kind root ≡ Some k →
+    Spot g k w (record { root = root; way = []; type = cleared (c.roots root).value })
+object_spot g w c root k sane e =
+    record {
+      whole = k;
+      root = e;
+      there = refl;
+      shape = cleared_shape g k (c.roots root).value (has_shape g w k (c.roots root).value (sane.values root k e));
+      small =
+          sane.small root k e;
+    }
 
 module _ {g : Given} {acts : List Activation} {reach : Reach} where
-  pub object_safe : {w : World} {P : World → Reference → Type 0} (at o : ℕ) (d : Option TypeId) → PointsTo w d o → ((i : ℕ) (x : Object) → slice_get w.objects i ≡ Some x → ((t : TypeId) → d ≡ Some t → w.kind x.root ≡ Some (Of (Some t))) → (c : Configuration) → Sane g w c → (u : World) → Later w u → P u (record { root = x.root; way = []; type = cleared (c.roots x.root).value })) → Safe g w acts reach P (object_of at o)
+  pub object_safe : {w : World} {P : World → Reference → Type 0} (at o : ℕ) (d : Option TypeId) → PointsTo w d o →
+      ((i : ℕ) (x : Object) → slice_get w.objects i ≡ Some x → ((t : TypeId) → d ≡ Some t → w.kind x.root ≡ Some (Of (Some t))) → (c : Configuration) → Sane g w c → (u : World) →
+      Later w u → P u (record { root = x.root; way = []; type = cleared (c.roots x.root).value })) → Safe g w acts reach P (object_of at o)
   object_safe at zero d h f = fault_safe at 7
   object_safe {w} {P} at (suc i) d h f = record {
     by = λ c sane e.
         let found : object_root c i ≡ Some h.0.root = ap (λ objects. object_by (slice_get objects i)) sane.objects ∙ ap object_by h.1 in
-        (bind_safe {P = λ u r. r ≡ h.0.root} {Q = P} (needs_safe (object_root c i) h.0.root found refl) (λ u l root same. then_safe (unless_fault (c.roots root).live at 8) (λ u' l' v live.
-        gives_safe (record { root = root; way = []; type = cleared (c.roots root).value }) (subst (λ root. P u' (record { root = root; way = []; type = cleared (c.roots root).value })) (sym same) (f i h.0 h.1 h.2 c sane u' (then_later l l')))))).by c sane e;
+        (bind_safe {P = λ u r. r ≡ h.0.root} {Q = P} (needs_safe (object_root c i) h.0.root found refl)
+        (λ u l root same. then_safe (unless_fault (c.roots root).live at 8) (λ u' l' v live.
+        gives_safe (record { root = root; way = []; type = cleared (c.roots root).value })
+        (subst (λ root. P u' (record { root = root; way = []; type = cleared (c.roots root).value })) (sym same) (f i h.0 h.1 h.2 c sane u' (then_later l l')))))).by c sane e;
   }

@@ -1,6 +1,6 @@
 -- What holds of a program whose typed trees are checked: its blocks, frames, labels and the forms of its variables are those
 -- of its tables.
-use Rattle.std.specs.Prelude.{◌≡◌, ℕ, true, false, List, [], Some, slice_get}
+use Rattle.std.specs.Prelude.{◌≡◌, ℕ, true, false, List, [], Some, None, slice_get}
 use Rattle.mp_tables.specs.declared.types.TypeId.{TypeId}
 use Rattle.mp_tables.specs.declared.types.Within.{Within}
 use Rattle.mp_tables.specs.declared.types.Slot.{Slot}
@@ -22,6 +22,8 @@ use Rattle.mp_tables.specs.StatementWalks.{label_name}
 use Rattle.mp_tables.specs.Headings.{FormalParameter}
 use Rattle.mp_tables.specs.Seen.{shape_of, heading_of, nested_at}
 use Rattle.mp_tables.specs.Variables.{sort_of}
+use Rattle.mp_tables.specs.Calls.{heading_or_none}
+use Rattle.mp_tables.specs.declared.headings.FormalKind.TheVariants as formal
 use Rattle.mp_tables.specs.Checked.{CheckedBlock}
 pub use Rattle.mp_tables.specs.Frames.{BeginsWith, declared_in, parameters_of}
 use Rattle.mp_meaning.specs.Names.{Path}
@@ -41,7 +43,8 @@ pub record IsVariableSlot (frame : List FrameSlot) (n : List ℕ) (v : Variable)
   pub of : slot.of ≡ v.of
 
 -- the slot of a parameter, which is the one of this number
-pub record IsParameterSlot (parameters : List FormalParameter) (frame : List FrameSlot) (n : List ℕ) (q : Parameter) : Type 0 where
+pub record IsParameterSlot (parameters : List FormalParameter) (frame : List FrameSlot) (n : List ℕ) (q : Parameter) :
+    Type 0 where
   pub number : ℕ
   pub parameter : FormalParameter
   pub found : variable_number frame n ≡ Some number
@@ -66,9 +69,11 @@ pub record IsResultSlot (frame : List FrameSlot) (t : TypeId) : Type 0 where
 pub record BlockFits (tables : List Table) (p : Program) (path : Path) (b : PlainTypedBlock) : Type 0 where
   pub parameters : BeginsWith (parameters_of tables path) b.frame
   pub variable : (n : List ℕ) (v : Variable) → declared_in tables path n ≡ Some (decl.Var path v) → IsVariableSlot b.frame n v
-  pub parameter : (n : List ℕ) (q : Parameter) → declared_in tables path n ≡ Some (decl.Param path q) → IsParameterSlot (parameters_of tables path) b.frame n q
+  pub parameter : (n : List ℕ) (q : Parameter) → declared_in tables path n ≡ Some (decl.Param path q) →
+      IsParameterSlot (parameters_of tables path) b.frame n q
   pub result : (t : TypeId) → (heading_of tables path).result ≡ Some t → IsResultSlot b.frame t
-  pub label : p.is_closed path ≡ false → (l : ℕ) → declared_in tables path (label_name l) ≡ Some (decl.Label path standing.Outermost) → is_found (from_label l b.statements) ≡ true
+  pub label : p.is_closed path ≡ false → (l : ℕ) → declared_in tables path (label_name l) ≡ Some
+      (decl.Label path standing.Outermost) → is_found (from_label l b.statements) ≡ true
   pub checked : p.is_closed path ≡ false → CheckedBlock tables b
 
 -- ---- record types
@@ -83,18 +88,32 @@ IsOrdinal tables t = (x : Shape) × (shape_of tables t ≡ Some x) × (sort_of (
 pub record RecordFits (tables : List Table) (r : RecordShape) : Type 0 where
   pub within : (i : ℕ) (s : Slot) (w : Within) → slice_get r.slots i ≡ Some s → s.within ≡ Some w → HasPart r w
   pub outer : (i : ℕ) (q : Part) (w : Within) → slice_get r.parts i ≡ Some q → q.within ≡ Some w → HasPart r w
-  pub tag : (i : ℕ) (q : Part) → slice_get r.parts i ≡ Some q → (s : Slot) × (t : TypeId) × (slice_get r.slots q.tag ≡ Some s) × (s.of ≡ Some t) × IsOrdinal tables t
+  pub tag : (i : ℕ) (q : Part) → slice_get r.parts i ≡ Some q → (s : Slot) × (t : TypeId) × (slice_get r.slots q.tag ≡ Some s) ×
+      (s.of ≡ Some t) × IsOrdinal tables t
 
 -- ---- programs
 
 pub record IsCheckedProgram (tables : List Table) (p : Program) : Type 0 where
   -- the program's own block is there, and that of each procedure and function
   pub whole : (b : PlainTypedBlock) × (block_of p [] ≡ Some b)
-  pub blocks : (path : Path) (n : Nested) → nested_at tables [] path ≡ Some n → (b : PlainTypedBlock) × (block_of p path ≡ Some b)
+  pub blocks : (path : Path) (n : Nested) → nested_at tables [] path ≡ Some n → (b : PlainTypedBlock) ×
+      (block_of p path ≡ Some b)
   pub fits : (path : Path) (b : PlainTypedBlock) → block_of p path ≡ Some b → BlockFits tables p path b
   -- the forms of variables are those of their types' shapes
   pub forms : (t : TypeId) → p.form t ≡ form_of_shape p.form (shape_of tables t)
   pub records : (t : TypeId) (r : RecordShape) → shape_of tables t ≡ Some (shape.Rec r) → RecordFits tables r
+
+-- ---- procedures
+
+-- A procedure has no result: the headings of procedures and of procedural parameters say so, and where one does, the frame of
+-- the
+-- block has no cell for a result.
+pub record ProceduresStand (tables : List Table) (p : Program) : Type 0 where
+  pub block : (path : Path) (b : PlainTypedBlock) → block_of p path ≡ Some b → (heading_of tables path).result ≡ None →
+      result_number b.frame ≡ None
+  pub routine : (path : Path) (n : Nested) → nested_at tables [] path ≡ Some n → n.function ≡ false → n.heading.result ≡ None
+  pub parameter : (path : Path) (n : List ℕ) (q : Parameter) → declared_in tables path n ≡ Some (decl.Param path q) →
+      q.kind ≡ formal.Procedure → (heading_or_none q.own).result ≡ None
 
 -- ---- outcomes
 

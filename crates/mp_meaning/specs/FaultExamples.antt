@@ -65,14 +65,16 @@ UndefinedExample = of_value (load (own i 0 0)) ≡ faulted 9 8 2 []
 
 abbrev pub OutsideTypeExample : Type 0
 OutsideTypeExample =
-    at_step (of_blocks (block [] (variable i ∷ []) 10 (last (assign_within 11 1 3 (own i 0 0) (number 4))) ∷ [])) [] 9 ≡ faulted 3 11 2 []
+    at_step (of_blocks (block [] (variable i ∷ []) 10 (last (assign_within 11 1 3 (own i 0 0) (number 4))) ∷ []))
+    [] 9 ≡ faulted 3 11 2 []
 
 -- ---- program p; type s = set of 0..9; var i: s; begin i := [..] end.
 
 abbrev of_members : ℕ → Standing
 of_members n =
     at_step (of_blocks (block [] (variable i ∷ []) 16 (last (
-    tree.Assign 17 (record { access = own i 0 0; check = check.Members (pos 0) (pos 9); tagging = None }) (expr.Set (expr.Member (number n) expr.NoMembers)))) ∷ [])) [] 9
+    tree.Assign 17 (record { access = own i 0 0; check = check.Members (pos 0) (pos 9); tagging = None })
+    (expr.Set (expr.Member (number n) expr.NoMembers)))) ∷ [])) [] 9
 
 -- [256] is fault 15, and [10] in this variable fault 3
 abbrev pub MemberExample : Type 0
@@ -91,7 +93,8 @@ of_index n e =
 
 -- a[4] := 1 is fault 4, and a[4] := 1 div 0 too: the variable is formed first
 abbrev pub IndexExample : Type 0
-IndexExample = (of_index 4 (number 1) ≡ faulted 4 16 2 []) × (of_index 4 (two (number 1) operator.Div (number 0)) ≡ faulted 4 16 2 [])
+IndexExample =
+    (of_index 4 (number 1) ≡ faulted 4 16 2 []) × (of_index 4 (two (number 1) operator.Div (number 0)) ≡ faulted 4 16 2 [])
 
 -- ---- program p; var q: ^integer; begin q := nil; q^ := 1 end.
 
@@ -125,7 +128,8 @@ abbrev pub ParameterExample : Type 0
 ParameterExample =
     at_step (of_blocks (
     block [] [] 20 (last (call 21 taking
-    (expr.Value (number 4) (check.Range (pos 1) (pos 3)) (expr.Value (two (number 1) operator.Div (number 0)) (check.Range least_integer maxint) expr.NoActuals)))) ∷
+    (expr.Value (number 4) (check.Range (pos 1) (pos 3))
+    (expr.Value (two (number 1) operator.Div (number 0)) (check.Range least_integer maxint) expr.NoActuals)))) ∷
     block taking (value_parameter (codes "x") ∷ value_parameter (codes "y") ∷ []) 0 (last (tree.Empty 1)) ∷ [])) [] 9 ≡
     faulted 3 21 2 []
 
@@ -135,7 +139,14 @@ ParameterExample =
 abbrev pub ForOrderExample : Type 0
 ForOrderExample =
     at_step (of_blocks (block [] (variable i ∷ []) 10 (
-    last (tree.For 11 (record { variable = located i 0 0; low = pos 1; high = pos 3; first = number 4; direction = direction.To; last = two (number 1) operator.Div (number 0) })
+    last (tree.For 11 (record {
+      variable = located i 0 0;
+      low = pos 1;
+      high = pos 3;
+      first = number 4;
+      direction = direction.To;
+      last = two (number 1) operator.Div (number 0);
+    })
     (tree.Empty 20))) ∷ [])) [] 9 ≡
     faulted 2 11 2 []
 
@@ -149,7 +160,8 @@ abbrev f : List ℕ
 f = codes "f"
 
 abbrev with_file : PlainTypedStatement → Standing
-with_file s = at_step (of_types text_form (block [] (record (slot f kind.Variable type.Text) { cells = 2 } ∷ []) 11 (last s) ∷ [])) [] 9
+with_file s =
+    at_step (of_types text_form (block [] (record (slot f kind.Variable type.Text) { cells = 2 } ∷ []) 11 (last s) ∷ [])) [] 9
 
 -- put(f), get(f) and write(f, 1: 1) on a closed file are fault 12, though its buffer is undefined and nothing is left to read;
 -- write(f, 1: 0) is fault 14, which comes before
@@ -157,10 +169,14 @@ abbrev pub FileStateExample : Type 0
 FileStateExample =
     (with_file (tree.Required 12 (tree.File procedure.Put (file f 0))) ≡ faulted 12 12 2 []) ×
     (with_file (tree.Required 12 (tree.File procedure.Get (file f 0))) ≡ faulted 12 12 2 []) ×
-    (with_file (tree.Required 12 (tree.Write false (file f 0) (integer_of_width (number 1) (Some (number 1)) ∷ []))) ≡ faulted 12 12 2 []) ×
-    (with_file (tree.Required 12 (tree.Write false (file f 0) (integer_of_width (number 1) (Some (number 0)) ∷ []))) ≡ faulted 14 12 2 [])
+    (with_file (tree.Required 12 (tree.Write false (file f 0)
+    (integer_of_width (number 1) (Some (number 1)) ∷ []))) ≡ faulted 12 12 2 []) ×
+    (with_file (tree.Required 12 (tree.Write false (file f 0)
+    (integer_of_width (number 1) (Some (number 0)) ∷ []))) ≡ faulted 14 12 2 [])
 
 -- ---- program p(output); begin write(1: 0) end.
 
 abbrev pub WidthFaultExample : Type 0
-WidthFaultExample = at_step (of_blocks (block [] [] 6 (last (write 7 (integer_of_width (number 1) (Some (number 0)) ∷ []))) ∷ [])) [] 9 ≡ faulted 14 7 2 []
+WidthFaultExample =
+    at_step (of_blocks (block [] [] 6 (last (write 7 (integer_of_width (number 1) (Some (number 0)) ∷ []))) ∷ []))
+    [] 9 ≡ faulted 14 7 2 []

@@ -57,7 +57,8 @@ CaseExample = (at_step (choices 3) [] 9 ≡ ended 3 (codes "b")) × (at_step (ch
 abbrev pub repeated : Program
 repeated = of_blocks (block [] (variable i ∷ []) 11 (
     assign 12 (own i 0 0) (number 0) then
-    tree.Repeat 16 (last (assign 17 (own i 0 0) (two read_i operator.Add (number 1)))) (compare read_i relation.GreaterOrEqual (number 3)) then
+    tree.Repeat 16 (last (assign 17 (own i 0 0) (two read_i operator.Add (number 1))))
+    (compare read_i relation.GreaterOrEqual (number 3)) then
     last (write 27 (integer_of_width read_i (Some (number 1)) ∷ []))) ∷ [])
 
 abbrev pub RepeatExample : Type 0
@@ -67,7 +68,15 @@ RepeatExample = at_step repeated [] 9 ≡ ended 7 (codes "3")
 
 abbrev pub counted_down : Program
 counted_down = of_blocks (block [] (variable i ∷ []) 11 (
-    last (tree.For 12 (record { variable = located i 0 0; low = least_integer; high = maxint; first = number 3; direction = direction.Downto; last = number 1 })
+    last (tree.For 12 (record {
+      variable = located i 0 0;
+      low = least_integer;
+      high = maxint;
+      first = number 3;
+      direction =
+          direction.Downto;
+      last = number 1;
+    })
     (write 19 (integer_of_width read_i (Some (number 1)) ∷ [])))) ∷ [])
 
 abbrev pub DowntoExample : Type 0
@@ -77,7 +86,15 @@ DowntoExample = at_step counted_down [] 9 ≡ ended 5 (codes "321")
 
 abbrev pub not_entered : Program
 not_entered = of_blocks (block [] (variable i ∷ []) 11 (
-    tree.For 12 (record { variable = located i 0 0; low = least_integer; high = maxint; first = number 2; direction = direction.To; last = number 1 }) (tree.Empty 19) then
+    tree.For 12 (record {
+      variable = located i 0 0;
+      low = least_integer;
+      high = maxint;
+      first = number 2;
+      direction =
+          direction.To;
+      last = number 1;
+    }) (tree.Empty 19) then
     last (write 20 (integer_of_width read_i (Some (number 1)) ∷ []))) ∷ [])
 
 -- the control variable is undefined also where the loop is not entered
@@ -88,7 +105,14 @@ NotEnteredExample = at_step not_entered [] 9 ≡ faulted 9 20 3 []
 
 abbrev pub past_the_type : Program
 past_the_type = of_blocks (block [] (variable i ∷ []) 10 (
-    last (tree.For 11 (record { variable = located i 0 0; low = pos 1; high = pos 3; first = number 1; direction = direction.To; last = number 4 })
+    last (tree.For 11 (record {
+      variable = located i 0 0;
+      low = pos 1;
+      high = pos 3;
+      first = number 1;
+      direction = direction.To;
+      last = number 4;
+    })
     (tree.Empty 18))) ∷ [])
 
 -- the last value is tested before the first turn
@@ -135,3 +159,18 @@ jumps_back = of_blocks (block [] (variable i ∷ []) 14 (
 
 abbrev pub GotoBackExample : Type 0
 GotoBackExample = at_step jumps_back [] 20 ≡ ended 11 (codes "3")
+
+-- ---- program p(output); label 1; var i: integer;
+-- begin i := 0; 1: if i < 3 then begin i := i + 1; goto 1 end; write(i: 1) end.
+
+abbrev pub jumps_out_of_itself : Program
+jumps_out_of_itself = of_blocks (block [] (variable i ∷ []) 14 (
+    assign 15 (own i 0 0) (number 0) then
+    tree.Labelled 1 (tree.If 19 (compare read_i relation.Less (number 3)) (tree.Compound 25 (
+    assign 26 (own i 0 0) (two read_i operator.Add (number 1)) then
+    last (tree.Goto 32 0 1)))) then
+    last (write 36 (integer_of_width read_i (Some (number 1)) ∷ []))) ∷ [])
+
+-- a goto may lead to a statement that contains it
+abbrev pub GotoAroundExample : Type 0
+GotoAroundExample = at_step jumps_out_of_itself [] 30 ≡ ended 16 (codes "3")

@@ -42,7 +42,9 @@ abbrev packing : ℕ → PlainPacking
 packing n = record { unpacked = own a 0 0; index = number n; packed = own z 0 3; low = pos 1; high = pos 3; count = 2; size = 1 }
 
 abbrev write_z : ℕ → PlainTypedStatement
-write_z at = write at (record { of = writes.Text 2; value = expr.Load (sort.Block 2) (own z 0 3).root expr.NoSelectors; width = None } ∷ [])
+write_z at =
+    write at (record { of = writes.Text 2; value = expr.Load (sort.Block 2) (own z 0 3).root expr.NoSelectors; width = None } ∷
+    [])
 
 -- a[1] := 'x'; a[2] := 'y'; a[3] := 'z'; pack(a, n, z); write(z)
 abbrev packed_from : ℕ → Standing
@@ -101,7 +103,9 @@ abbrev pub SetExample : Type 0
 SetExample =
     (truth_of (expr.In (number 4) few) ≡ ended 2 (codes " True")) ×
     (truth_of (expr.In (number 2) few) ≡ ended 2 (codes "False")) ×
-    (truth_of (expr.Compare sort.Set relation.Equal (two few operator.Intersection (set_of_one 2)) (expr.Set expr.NoMembers)) ≡ ended 2 (codes " True")) ×
+    (truth_of (expr.Compare sort.Set relation.Equal (two few operator.Intersection (set_of_one 2))
+    (expr.Set expr.NoMembers)) ≡ ended 2 (codes " True")) ×
     (truth_of (expr.Compare sort.Set relation.LessOrEqual (set_of_one 1) few) ≡ ended 2 (codes " True")) ×
     (truth_of (expr.Compare sort.Set relation.Equal (expr.Chain few (
-    expr.Operation operator.Difference (set_of_one 1) (expr.Operation operator.Union (set_of_one 1) expr.NoOperations))) few) ≡ ended 2 (codes " True"))
+    expr.Operation operator.Difference (set_of_one 1)
+    (expr.Operation operator.Union (set_of_one 1) expr.NoOperations))) few) ≡ ended 2 (codes " True"))

@@ -39,7 +39,8 @@ abbrev pub quoted : List ℕ → List ℕ
 quoted cs = 39 ∷ flat_map quote_doubled cs ++ 39 ∷ []
 
 abbrev pub character_text : ℕ → List ℕ
-character_text c = elim (is_printable c) as (λ is. List ℕ) [ true ↦ quoted (c ∷ []) | false ↦ codes "chr(" ++ decimal c ++ codes ")" ]
+character_text c =
+    elim (is_printable c) as (λ is. List ℕ) [ true ↦ quoted (c ∷ []) | false ↦ codes "chr(" ++ decimal c ++ codes ")" ]
 
 abbrev pub name_of : Option (List ℕ) → List ℕ
 name_of None = []
@@ -148,7 +149,8 @@ module _ (shapes : TypeId → Option Shape) where
     value_text None v = []
     value_text (Some id) Undefined = codes "?"
     value_text (Some id) (Number n) = ordinal_text shapes (host_in id (shapes id)) n
-    value_text (Some id) (Members set) = codes "[" ++ joined (map (λ m. ordinal_text shapes (base_host (shapes id)) (pos m)) set) ++ codes "]"
+    value_text (Some id) (Members set) =
+        codes "[" ++ joined (map (λ m. ordinal_text shapes (base_host (shapes id)) (pos m)) set) ++ codes "]"
     value_text (Some id) (Pointer zero) = codes "nil"
     value_text (Some id) (Pointer (suc k)) = codes "object " ++ decimal (suc k)
     value_text (Some id) (Routine block parent) = []

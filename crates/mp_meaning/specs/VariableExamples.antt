@@ -32,13 +32,24 @@ abbrev tag : PlainTypedSelectors → PlainTypedSelectors
 tag more = expr.Field (record { name = codes "t"; slot = 0; offset = 0; guards = [] }) more
 
 abbrev field_i : PlainTypedSelectors → PlainTypedSelectors
-field_i more = expr.Field (record { name = codes "i"; slot = 1; offset = 1; guards = record { slot = 0; offset = 0; hidden = false; constants = pos 0 ∷ []; slots = 2; cells = 2 } ∷ [] }) more
+field_i more =
+    expr.Field (record {
+      name = codes "i";
+      slot = 1;
+      offset = 1;
+      guards =
+          record { slot = 0; offset = 0; hidden = false; constants = pos 0 ∷ []; slots = 2; cells = 2 } ∷ [];
+    }) more
 
 abbrev set_tag : ℕ → ℕ → PlainTypedStatement
 set_tag at value = tree.Assign at (record {
   access = select v tag;
   check = check.Range (pos 0) (pos 1);
-  tagging = Some (record { variants = record { constants = pos 0 ∷ [] } ∷ record { constants = pos 1 ∷ [] } ∷ []; slots = 2; cells = 2 });
+  tagging = Some (record {
+    variants = record { constants = pos 0 ∷ [] } ∷ record { constants = pos 1 ∷ [] } ∷ [];
+    slots = 2;
+    cells = 2;
+  });
 }) (number value)
 
 abbrev pub variants : Program
@@ -67,7 +78,8 @@ abbrev pub pointers : Program
 pointers = of_blocks (block [] (variable (codes "a") ∷ variable (codes "b") ∷ []) 19 (
     new_a 20 then
     assign 25 (select a expr.Follow) (number 1) then
-    tree.Assign 30 (record { access = b; check = check.Pointer; tagging = None }) (expr.Load sort.Pointer a.root a.selectors) then
+    tree.Assign 30 (record { access = b; check = check.Pointer; tagging = None })
+    (expr.Load sort.Pointer a.root a.selectors) then
     tree.Required 34 (tree.Dispose (expr.Load sort.Pointer a.root a.selectors)) then
     new_a 39 then
     assign 44 (select a expr.Follow) (number 2) then

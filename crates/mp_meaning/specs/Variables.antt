@@ -147,7 +147,8 @@ first_constant (n ∷ more) = Number n
 
 -- A variant without a tag field is selected where the variable is formed to be set, and else the access is fault 10.
 abbrev pub select : (at : ℕ) → (setting : Bool) → Reference → Guard → Command
-select at setting tag g = choose (setting && g.hidden) (retag at tag (first_constant g.constants) g.slots g.cells) (fault at variant_not_active)
+select at setting tag g =
+    choose (setting && g.hidden) (retag at tag (first_constant g.constants) g.slots g.cells) (fault at variant_not_active)
 
 -- the variant must be active
 abbrev pub pass : (at : ℕ) → (setting : Bool) → Reference → Guard → Command

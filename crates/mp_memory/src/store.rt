@@ -58,6 +58,13 @@ impl Store {
         Ok(number)
     }
 
+    /// How many roots were given: the number of the next one.
+    pub fn given(&self) -> u64
+        ensures { result ≡ self.now.next }
+    {
+        self.next
+    }
+
     /// Whether the root lives: it was given and not dropped.
     pub fn is_live(&self, root: u64) -> bool
         ensures { result ≡ is_some (roots_of self.now root) }

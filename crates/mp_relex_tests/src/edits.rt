@@ -1,9 +1,9 @@
 ghost use Rattle.std.specs.Prelude.{◌≡◌};
 
-use crate::desk::Desk;
-use crate::same::is_lexed;
+use crate::same::{is_lexed, is_lexed_as};
 use itoa::Buffer;
 use mp_base::{Counting, Memory, Steps, TextLine, TextLines, Version};
+use mp_desk::Desk;
 use mp_script::{BadLine, Command, Lines, Verb, command};
 use mp_text::{Edit, TextError};
 use std::alloc::Global;
@@ -76,6 +76,15 @@ fn substitute(
     found.desk.edit(edit, &mut found.steps)
 }
 
+// Goes back to a version, whose tokens the new one has.
+fn back(found: &mut Found, v: Version) -> Result<Version, TextError> {
+    let made = found.desk.back(v, &mut found.steps)?;
+    if !is_lexed_as(&found.desk, v) {
+        found.differ = found.differ.saturating_add(1);
+    }
+    Ok(made)
+}
+
 // Makes the version that a command asks for.
 fn edited(found: &mut Found, asked: Command) -> Option<Result<Version, TextError>> {
     let lines = asked.lines;
@@ -94,7 +103,7 @@ fn edited(found: &mut Found, asked: Command) -> Option<Result<Version, TextError
             column,
             count,
         } => Some(substitute(found, line, column, count, lines)),
-        Verb::Back { version } => Some(found.desk.back(Version(version), &mut found.steps)),
+        Verb::Back { version } => Some(back(found, Version(version))),
         _ => None,
     }
 }

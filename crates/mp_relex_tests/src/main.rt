@@ -1,13 +1,13 @@
-//! The tests of `relex`: after each edit of a script its tokens and errors are those that `lex` gives of the whole
-//! text.
+//! The tests of a desk and of `relex`: after each edit of a script the tokens and errors are those that `lex` gives of
+//! the whole text.
 //!
 //! `stdin` is a script of edits in the form of Magpie's commands. Behind the last one the program writes how many edits
 //! were made, how many were refused, and after how many of all these the two lists differ, which must be none; for each
-//! command `ready` it writes how many bytes of the new text the command before it read. `script.py` made the
-//! script, and counts its edits by itself.
+//! command `ready` it writes how many bytes of the new text the command before it read. Where the script goes back to a
+//! version, the tokens are compared with those of that version, too. `script.py` made the script, and counts its edits
+//! by itself.
 #![tactic(auto)]
 
-mod desk;
 mod edits;
 mod same;
 

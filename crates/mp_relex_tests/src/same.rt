@@ -1,5 +1,5 @@
-use crate::desk::Desk;
-use mp_base::SCRIPT_LIMIT;
+use mp_base::{SCRIPT_LIMIT, Version};
+use mp_desk::Desk;
 use mp_lex::{LexError, Lexed, Token, TokenKind, lex};
 use std::alloc::Global;
 
@@ -31,10 +31,9 @@ fn same(one: &Lexed, other: &Lexed) -> bool {
         && e.iter().zip(f).all(|(x, y)| same_error(x, y))
 }
 
-/// Whether the tokens and errors that `relex` gave are those that `lex` gives of the whole text.
+/// Whether the tokens and errors of the last version are those that `lex` gives of its whole text.
 pub(crate) fn is_lexed(alloc: Global, desk: &Desk) -> bool {
-    let texts = desk.texts();
-    let Ok(bytes) = texts.bytes(texts.current()) else {
+    let Ok(bytes) = desk.bytes(desk.texts().current()) else {
         return false;
     };
     if bytes.get().len() > SCRIPT_LIMIT {
@@ -44,4 +43,12 @@ pub(crate) fn is_lexed(alloc: Global, desk: &Desk) -> bool {
         return false;
     };
     same(desk.lexed(), &whole)
+}
+
+/// Whether the tokens and errors of the last version are those of another one.
+pub(crate) fn is_lexed_as(desk: &Desk, v: Version) -> bool {
+    match desk.lexed_of(v) {
+        Ok(other) => same(desk.lexed(), &other),
+        Err(_) => false,
+    }
 }

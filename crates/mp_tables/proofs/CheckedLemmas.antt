@@ -48,7 +48,8 @@ or_true false e = e
 
 none_again : (v : ℕ) (earlier list : List Number) → list_any (has_value v) earlier ≡ true → Apart earlier list → count_by (has_value v) list ≡ 0
 none_again v earlier [] e a = refl
-none_again v earlier (n ∷ more) e a = sum_by-cons (λ x. cond (has_value v x) 1 0) n more ∙ by (has_value v n) refl (none_again v (n ∷ earlier) more (or_true (has_value v n) e) a.1)
+none_again v earlier (n ∷ more) e a = sum_by-cons (λ x. cond (has_value v x) 1 0) n more
+    ∙ by (has_value v n) refl (none_again v (n ∷ earlier) more (or_true (has_value v n) e) a.1)
   where
     by : (b : Bool) → has_value v n ≡ b → count_by (has_value v) more ≡ 0 → cond b 1 0 + count_by (has_value v) more ≡ 0
     by true p c = true_false (sym e ∙ ap (λ k. list_any (has_value k) earlier) (sym (eqb-true n.value v p)) ∙ a.0)
@@ -58,7 +59,8 @@ one_in : (v : ℕ) (earlier list : List Number) → list_any (has_value v) list 
 one_in v earlier [] e a = false_true e
 one_in v earlier (n ∷ more) e a = sum_by-cons (λ x. cond (has_value v x) 1 0) n more ∙ by (has_value v n) refl e (one_in v (n ∷ earlier) more)
   where
-    by : (b : Bool) → has_value v n ≡ b → (b || list_any (has_value v) more) ≡ true → (list_any (has_value v) more ≡ true → Apart (n ∷ earlier) more → count_by (has_value v) more ≡ 1) → cond b 1 0 + count_by (has_value v) more ≡ 1
+    by : (b : Bool) → has_value v n ≡ b → (b || list_any (has_value v) more) ≡ true →
+        (list_any (has_value v) more ≡ true → Apart (n ∷ earlier) more → count_by (has_value v) more ≡ 1) → cond b 1 0 + count_by (has_value v) more ≡ 1
     by true p q f = let z : count_by (has_value v) more ≡ 0 = none_again v (n ∷ earlier) more (ap (λ x. x || list_any (has_value v) earlier) p) a.1 in omega (arith, z)
     by false p q f = let z : count_by (has_value v) more ≡ 1 = f q a.1 in omega (arith, z)
 
@@ -66,7 +68,8 @@ stands_in : (v : ℕ) (ps ns : List Number) → Each (λ n. list_any (has_value 
 stands_in v ps [] g e = false_true e
 stands_in v ps (n ∷ ns) g e = by (has_value v n) refl e (stands_in v ps ns g.1)
   where
-    by : (b : Bool) → has_value v n ≡ b → (b || list_any (has_value v) ns) ≡ true → (list_any (has_value v) ns ≡ true → list_any (has_value v) ps ≡ true) → list_any (has_value v) ps ≡ true
+    by : (b : Bool) → has_value v n ≡ b → (b || list_any (has_value v) ns) ≡ true → (list_any (has_value v) ns ≡ true → list_any (has_value v) ps ≡ true) →
+        list_any (has_value v) ps ≡ true
     by true p q f = subst (λ k. list_any (has_value k) ps ≡ true) (eqb-true n.value v p) g.0
     by false p q f = f q
 
@@ -74,7 +77,8 @@ standing_by : (b : Bool) → cond b standing.Outermost standing.Inner ≡ standi
 standing_by true e = cc
 standing_by false e = cc
 
-once : (own : PlainBlock) → Each (λ n. list_any (has_value n.value) (prefixes_in (statements_of_part own.statements)) ≡ true) own.labels → Apart [] (prefixes_in (statements_of_part own.statements)) → OnceStanding own
+once : (own : PlainBlock) → Each (λ n. list_any (has_value n.value) (prefixes_in (statements_of_part own.statements)) ≡ true) own.labels →
+    Apart [] (prefixes_in (statements_of_part own.statements)) → OnceStanding own
 once own g a v e h =
     let ss : PlainStatements = statements_of_part own.statements in
     let c : count_by (has_value v) (prefixes_in ss) ≡ 1 = one_in v [] (prefixes_in ss) (stands_in v (prefixes_in ss) own.labels g e) a in
@@ -109,15 +113,19 @@ module _ (tables : List Table) (complete : Complete tables) (path : List PathSte
       so λ u a e p q. (e, a)
 
   stand_clean : (n : Number) → Clean (answers_of tables) (standing_label own n) (λ u. list_any (has_value n.value) (prefixes_in (statements_of_part own.statements)) ≡ true)
-  stand_clean n = clean_report_if (not (list_any (has_value n.value) (prefixes_in (statements_of_part own.statements)))) 309 n.at so λ u e. holds (list_any (has_value n.value) (prefixes_in (statements_of_part own.statements))) e
+  stand_clean n = clean_report_if (not (list_any (has_value n.value) (prefixes_in (statements_of_part own.statements)))) 309 n.at
+      so λ u e. holds (list_any (has_value n.value) (prefixes_in (statements_of_part own.statements))) e
 
-  fits_here : OnceStanding own → OuterOnce tables path → PlaceFits tables path nowhere (record { region = record { path = path; opened = []; controlled = [] }; own = own; labels = [] })
+  fits_here : OnceStanding own → OuterOnce tables path →
+      PlaceFits tables path nowhere (record { region = record { path = path; opened = []; controlled = [] }; own = own; labels = [] })
   fits_here o f = record { region = record { path = refl; count = refl; opened = tt }; labels = refl; once = o; outer = f }
 
   abbrev CheckedPart : PlainTypedStatements → Type 0
   CheckedPart ts = CheckedSequence (within_sequence ts (record { tables = tables; path = path; opened = []; labels = [] })) ts
 
-  part_clean : Clean (answers_of tables) (statement_part path own) (λ ts. OnceStanding own × (OuterOnce tables path → ShortStatements (statements_of_part own.statements) → CheckedPart ts) × (outermost_labels ts ≡ map (λ n. n.value) (outermost_prefixes (statements_of_part own.statements))))
+  part_clean : Clean (answers_of tables) (statement_part path own) (λ ts. OnceStanding own
+      × (OuterOnce tables path → ShortStatements (statements_of_part own.statements) → CheckedPart ts)
+      × (outermost_labels ts ≡ map (λ n. n.value) (outermost_prefixes (statements_of_part own.statements))))
   part_clean =
       let ss : PlainStatements = statements_of_part own.statements in
       clean_lift (assigns path)
@@ -129,23 +137,29 @@ module _ (tables : List Table) (complete : Complete tables) (path : List PathSte
         once own s a,
         λ f short.
             g.1 (record { opened = []; labels = outermost_labels ts ++ [] })
-            (labels_fit tables complete path nowhere (record { region = record { path = path; opened = []; controlled = [] }; own = own; labels = [] }) ss ts g.0 (fits_here (once own s a) f)) short,
+            (labels_fit tables complete path nowhere (record { region = record { path = path; opened = []; controlled = [] }; own = own; labels = [] }) ss ts g.0
+            (fits_here (once own s a) f)) short,
         g.0,
       )
 
   -- ---- a block without errors
 
   -- no error of the declarations, and none of the statements
-  no_errors : errors_in (answers_of tables) path own ≡ [] → (((elaborate path own).run (answers_of tables)).errors ≡ []) × (((statement_part path own []).run (answers_of tables)).1 ≡ [])
-  no_errors e = no_front ((elaborate path own).run (answers_of tables)).errors ((statement_part path own []).run (answers_of tables)).1 (no_reports ((judge path own).run (answers_of tables)).reports e)
+  no_errors : errors_in (answers_of tables) path own ≡ [] → (((elaborate path own).run (answers_of tables)).errors ≡ [])
+      × (((statement_part path own []).run (answers_of tables)).1 ≡ [])
+  no_errors e =
+      no_front ((elaborate path own).run (answers_of tables)).errors ((statement_part path own []).run (answers_of tables)).1
+      (no_reports ((judge path own).run (answers_of tables)).reports e)
 
   pub block_once : errors_in (answers_of tables) path own ≡ [] → OnceStanding own
   block_once e = (part_clean.by [] (no_errors e).1).1.0
 
-  pub block_labels : errors_in (answers_of tables) path own ≡ [] → outermost_labels ((judge path own).run (answers_of tables)).statements ≡ map (λ n. n.value) (outermost_prefixes (statements_of_part own.statements))
+  pub block_labels : errors_in (answers_of tables) path own ≡ [] →
+      outermost_labels ((judge path own).run (answers_of tables)).statements ≡ map (λ n. n.value) (outermost_prefixes (statements_of_part own.statements))
   block_labels e = (part_clean.by [] (no_errors e).1).1.2
 
-  pub block_checked : errors_in (answers_of tables) path own ≡ [] → OuterOnce tables path → ShortStatements (statements_of_part own.statements) → CheckedPart ((judge path own).run (answers_of tables)).statements
+  pub block_checked : errors_in (answers_of tables) path own ≡ [] → OuterOnce tables path → ShortStatements (statements_of_part own.statements) →
+      CheckedPart ((judge path own).run (answers_of tables)).statements
   block_checked e o short = (part_clean.by [] (no_errors e).1).1.1 o short
 
 -- ---- all blocks
@@ -225,21 +239,25 @@ module _ (tables : List Table) (once' : AllByRecursion (λ t. AllPoints (OnceDec
   outer_once : (path : List PathStep) → OuterOnce tables path
   outer_once path depth n q s e = by (table_at tables (take depth path)) refl e
     where
-      entry : (t : Table) (o : Option Entry) → table_at tables (take depth path) ≡ Some t → lookup (bytes_eq n) t.names ≡ o → option_map (λ x. x.decl) o ≡ Some (decl.Label q s) → s ≡ standing.NotOnce → ⊥
+      entry : (t : Table) (o : Option Entry) → table_at tables (take depth path) ≡ Some t → lookup (bytes_eq n) t.names ≡ o →
+          option_map (λ x. x.decl) o ≡ Some (decl.Label q s) → s ≡ standing.NotOnce → ⊥
       entry t None p k l = none_some l
       entry t (Some x) p k l = subst (OnceDecl (take depth path)) (some_inj l) (found_in OnceDecl tables (take depth path) t n x once' p k)
 
-      by : (t : Option Table) → table_at tables (take depth path) ≡ t → option_map (λ x. x.decl) (option_and_then (λ y. lookup (bytes_eq n) y.names) t) ≡ Some (decl.Label q s) → s ≡ standing.NotOnce → ⊥
+      by : (t : Option Table) → table_at tables (take depth path) ≡ t →
+          option_map (λ x. x.decl) (option_and_then (λ y. lookup (bytes_eq n) y.names) t) ≡ Some (decl.Label q s) → s ≡ standing.NotOnce → ⊥
       by None p k = none_some k
       by (Some t) p k = entry t (lookup (bytes_eq n) t.names) p refl k
 
-all_once : (tables : List Table) (complete : Complete tables) (bs : List PlacedBlock) → flat_map (errors_at (answers_of tables)) bs ≡ [] → AllByRecursion (λ b. OnceStanding b.own) bs
+all_once : (tables : List Table) (complete : Complete tables) (bs : List PlacedBlock) → flat_map (errors_at (answers_of tables)) bs ≡ [] →
+    AllByRecursion (λ b. OnceStanding b.own) bs
 all_once tables complete [] e = tt
 all_once tables complete (b ∷ bs) e =
     let h = no_front (errors_at (answers_of tables) b) (flat_map (errors_at (answers_of tables)) bs) e in
     (block_once tables complete b.path b.own (no_map _ (errors_in (answers_of tables) b.path b.own) h.0), all_once tables complete bs h.1)
 
-blocks_checked : (tables : List Table) (complete : Complete tables) → ((path : List PathStep) → OuterOnce tables path) → (bs : List PlacedBlock) → ShortBlocks bs → flat_map (errors_at (answers_of tables)) bs ≡ [] → CheckedBlocks tables bs
+blocks_checked : (tables : List Table) (complete : Complete tables) → ((path : List PathStep) → OuterOnce tables path) → (bs : List PlacedBlock) → ShortBlocks bs →
+    flat_map (errors_at (answers_of tables)) bs ≡ [] → CheckedBlocks tables bs
 blocks_checked tables complete o [] s e = tt
 blocks_checked tables complete o (b ∷ bs) s e =
     let h = no_front (errors_at (answers_of tables) b) (flat_map (errors_at (answers_of tables)) bs) e in

@@ -104,7 +104,8 @@ module _ (a b : Answers) where
   bounds_by_same : (at : ℕ) (x y : Option ConstantValue) → Same a b Any (bounds_by at x y) Any
   bounds_by_same at None y = same_pure None tt
   bounds_by_same at (Some v) None = same_pure None tt
-  bounds_by_same at (Some (value.Ordinal h m)) (Some (value.Ordinal i n)) = same_if _ (same_refuse 317 at tt) (same_if _ (same_refuse 316 at tt) (same_pure (Some (record { host = h; low = m; high = n })) tt))
+  bounds_by_same at (Some (value.Ordinal h m)) (Some (value.Ordinal i n)) =
+      same_if _ (same_refuse 317 at tt) (same_if _ (same_refuse 316 at tt) (same_pure (Some (record { host = h; low = m; high = n })) tt))
   bounds_by_same at (Some v) (Some x) = same_refuse 317 at tt
 
   ordinal_by_same : (at : ℕ) (o : Option Bounds) → Same a b Any (ordinal_by at o) Any
@@ -129,7 +130,8 @@ module _ (a b : Answers) where
     selecting_by_same : (host : Option TypeId) (at : ℕ) (s : Selecting) (v : Option ConstantValue) → Same a b Any (selecting_by host at s v) Any
     selecting_by_same host at s None = same_pure s tt
     selecting_by_same host at s (Some v) =
-        same_report_if (not (constant_fits host v)) 324 at next λ u p. same_report_if (list_any (same_constant v) s.known) 325 at next λ u p. same_pure (record { values = s.values ++ numbers v; known = v ∷ s.known }) tt
+        same_report_if (not (constant_fits host v)) 324 at next λ u p. same_report_if (list_any (same_constant v) s.known) 325 at
+        next λ u p. same_pure (record { values = s.values ++ numbers v; known = v ∷ s.known }) tt
 
     selecting_same : (host : Option TypeId) (cs : List Constant) (s : Selecting) → Same a b Any (selecting find host cs s) Any
     selecting_same host [] s = same_pure s tt
@@ -137,7 +139,8 @@ module _ (a b : Answers) where
 
 -- ---- names that are filled
 
-same_test : {A : Type 0} (test : List ℕ → Bool) (m n : List ℕ) (x y : A) (r s : Option A) → m ≡ n → is_some r ≡ is_some s → is_some (cond (test m) (Some x) r) ≡ is_some (cond (test n) (Some y) s)
+same_test : {A : Type 0} (test : List ℕ → Bool) (m n : List ℕ) (x y : A) (r s : Option A) → m ≡ n → is_some r ≡ is_some s →
+    is_some (cond (test m) (Some x) r) ≡ is_some (cond (test n) (Some y) s)
 same_test test m n x y r s e f = subst (λ k. is_some (cond (test m) (Some x) r) ≡ is_some (cond (test k) (Some y) s)) e (by (test m))
   where
     by : (t : Bool) → is_some (cond t (Some x) r) ≡ is_some (cond t (Some y) s)
@@ -150,7 +153,9 @@ filled_keys n at d m (p ∷ known) = by (bytes_eq n p.0) (nat_eq p.1.at at) refl
   where
     by : (x y : Bool) → bytes_eq n p.0 ≡ x → is_some (lookup (bytes_eq m) (filled n at d known)) ≡ is_some (lookup (bytes_eq m) known) →
         is_some (lookup (bytes_eq m) (cond (x && y) (n, record { decl = d; at = at; last = p.1.last }) p ∷ filled n at d known)) ≡ is_some (lookup (bytes_eq m) (p ∷ known))
-    by true true e f = same_test (bytes_eq m) n p.0 (record { decl = d; at = at; last = p.1.last }) p.1 (lookup (bytes_eq m) (filled n at d known)) (lookup (bytes_eq m) known) ((bytes_eq-Decides n p.0).0 e) f
+    by true true e f =
+        same_test (bytes_eq m) n p.0 (record { decl = d; at = at; last = p.1.last }) p.1 (lookup (bytes_eq m) (filled n at d known)) (lookup (bytes_eq m) known)
+        ((bytes_eq-Decides n p.0).0 e) f
     by true false e f = same_test (bytes_eq m) p.0 p.0 p.1 p.1 (lookup (bytes_eq m) (filled n at d known)) (lookup (bytes_eq m) known) refl f
     by false y e f = same_test (bytes_eq m) p.0 p.0 p.1 p.1 (lookup (bytes_eq m) (filled n at d known)) (lookup (bytes_eq m) known) refl f
 
@@ -212,10 +217,12 @@ pub record OfBlock (path : List PathStep) (D : Decl → Type 0) : Type 0 where
   pub procedures : (x : Routine) → D (decl.Proc path x)
   pub functions : (x : Routine) (offset : ℕ) → D (decl.Func path x offset)
 
-module _ (a b : Answers) (path : List PathStep) (shapes : (p : List PathStep) (at : ℕ) → Within p path → same_path p path ≡ false → b.shape (type.Own p at) ≡ a.shape (type.Own p at)) where
+module _ (a b : Answers) (path : List PathStep) (shapes : (p : List PathStep) (at : ℕ) → Within p path → same_path p path ≡ false →
+    b.shape (type.Own p at) ≡ a.shape (type.Own p at)) where
   -- ---- shapes that are asked, whatever is kept
 
-  own_by : {Inv : Known → Type 0} (p : List PathStep) (at : ℕ) (x : Bool) → same_path p path ≡ x → Within p path → Same a b Inv (cond x (own_typed at (type.Own p at)) (typed (type.Own p at))) Any
+  own_by : {Inv : Known → Type 0} (p : List PathStep) (at : ℕ) (x : Bool) → same_path p path ≡ x → Within p path →
+      Same a b Inv (cond x (own_typed at (type.Own p at)) (typed (type.Own p at))) Any
   own_by p at true e g = record { by = λ k i. (refl, i, tt) }
   own_by p at false e g = same_lift {P = Any} (ask_shape (type.Own p at)) (shapes p at g e) tt next λ s q. same_pure (record { id = Some (type.Own p at); shape = s }) tt
 
@@ -241,7 +248,11 @@ module _ (a b : Answers) (path : List PathStep) (shapes : (p : List PathStep) (a
     Step m P = Same a b Kept m P
 
     rule_same : {A : Type 0} {P : A → Type 0} {m : Rule A} → Same a b Any m P → Same a b Kept (by_rule m) P
-    rule_same c = record { by = λ k i. let r = c.by k.errors tt in (ap (λ p. (p.0, record k { errors = p.1 })) r.0, record { keys = i.keys; points = i.points; own = i.own; headings = i.headings; nested = i.nested }, r.2) }
+    rule_same c =
+        record {
+          by = λ k i. let r = c.by k.errors tt in
+              (ap (λ p. (p.0, record k { errors = p.1 })) r.0, record { keys = i.keys; points = i.points; own = i.own; headings = i.headings; nested = i.nested }, r.2);
+        }
 
     look_same : (k : Known) → Kept k → (at : ℕ) (n : List ℕ) (place : ℕ) → Same a b Any (look_at path k.names at n place) (UseIfWithin path)
     look_same k i at n place = by (lookup (bytes_eq n) k.names) refl
@@ -252,11 +263,13 @@ module _ (a b : Answers) (path : List PathStep) (shapes : (p : List PathStep) (a
 
         by : (o : Option Entry) → lookup (bytes_eq n) k.names ≡ o → Same a b Any (look_by path at n place o) (UseIfWithin path)
         by None e =
-            same_lift (find_name n (record { path = path; ordinal = place })) (names n place (none_by (lookup (bytes_eq n) k.names) (lookup (bytes_eq n) ref) (i.keys n) e)) (seen n place)
+            same_lift (find_name n (record { path = path; ordinal = place })) (names n place (none_by (lookup (bytes_eq n) k.names) (lookup (bytes_eq n) ref) (i.keys n) e))
+            (seen n place)
             next λ s g. declared_same a b path at s g
         by (Some x) e = declared_same a b path at (seen_entry place x) (entry x _ (lookup_within path n k.names x i.points e))
 
-    looking_same : {A : Type 0} {P : A → Type 0} (m : Lookup → Rule A) → ((find : Lookup) → ((x : Identifier) → Same a b Any (find x) (UseIfWithin path)) → Same a b Any (m find) P) → Same a b Kept (looking path m) P
+    looking_same : {A : Type 0} {P : A → Type 0} (m : Lookup → Rule A) →
+        ((find : Lookup) → ((x : Identifier) → Same a b Any (find x) (UseIfWithin path)) → Same a b Any (m find) P) → Same a b Kept (looking path m) P
     looking_same m f = record { by = λ k i. (rule_same (f (look path k.names) (λ x. look_same k i x.at x.name x.at))).by k i }
 
     change_same : (f : Known → Known) → ((k : Known) → Kept k → Kept (f k)) → Same a b Kept (change f) Any
@@ -265,14 +278,22 @@ module _ (a b : Answers) (path : List PathStep) (shapes : (p : List PathStep) (a
     fill_same : (n : List ℕ) (at : ℕ) (d : Decl) → DeclWithin path d → D d → Same a b Kept (fill n at d) Any
     fill_same n at d g e =
         change_same (λ k. record k { names = filled n at d k.names })
-        (λ k i. record { keys = λ m. filled_keys n at d m k.names ∙ i.keys m; points = filled_within path n at d k.names g i.points; own = filled_all D n at d k.names e i.own; headings = i.headings; nested = i.nested })
+        (λ k i. record {
+          keys = λ m. filled_keys n at d m k.names
+              ∙ i.keys m;
+          points = filled_within path n at d k.names g i.points;
+          own = filled_all D n at d k.names e i.own;
+          headings = i.headings;
+          nested = i.nested;
+        })
 
     type_name_same : (x : Identifier) → Same a b Kept (type_name path x) (TypeIfWithin path)
     type_name_same x = looking_same (λ find. find x >>= type_use x.at) (λ find f. f x next λ u g. type_use_same a b path x.at u g)
 
     new_type_same : (at : ℕ) (s : Shape) → Same a b Kept (new_type path at s) (TypeIfWithin path)
     new_type_same at s =
-        change_same (λ k. record k { shapes = k.shapes ++ record { at = at; shape = s } ∷ [] }) (λ k i. record { keys = i.keys; points = i.points; own = i.own; headings = i.headings; nested = i.nested })
+        change_same (λ k. record k { shapes = k.shapes ++ record { at = at; shape = s } ∷ [] })
+        (λ k i. record { keys = i.keys; points = i.points; own = i.own; headings = i.headings; nested = i.nested })
         next λ u p. same_pure (Some (type.Own path at)) (itself_within path)
 
     new_range_same : (at : ℕ) (o : Option Bounds) → Same a b Kept (new_range path at o) (TypeIfWithin path)
@@ -281,7 +302,8 @@ module _ (a b : Answers) (path : List PathStep) (shapes : (p : List PathStep) (a
 
     fill_constants_same : (id : TypeId) (n : ℕ) (xs : List Identifier) → Same a b Kept (fill_constants path id n xs) Any
     fill_constants_same id n [] = same_pure tt tt
-    fill_constants_same id n (x ∷ xs) = fill_same x.name x.at (decl.Const path (Some (value.Ordinal id (pos n)))) tt (is.constants (Some (value.Ordinal id (pos n)))) next λ u p. fill_constants_same id (n + 1) xs
+    fill_constants_same id n (x ∷ xs) = fill_same x.name x.at (decl.Const path (Some (value.Ordinal id (pos n)))) tt (is.constants (Some (value.Ordinal id (pos n))))
+        next λ u p. fill_constants_same id (n + 1) xs
 
     ordinal_type_same : (at : ℕ) (id : Option TypeId) → TypeIfWithin path id → Same a b Kept (ordinal_type path at id) Any
     ordinal_type_same at None g = same_pure None tt
@@ -293,10 +315,15 @@ module _ (a b : Answers) (path : List PathStep) (shapes : (p : List PathStep) (a
 
     arrays_same : (packed : Bool) (is : List IndexType) (c : Option TypeId) → TypeIfWithin path c → Same a b Kept (arrays path packed is c) (TypeIfWithin path)
     arrays_same packed [] c g = same_pure c g
-    arrays_same packed (i ∷ outer) c g = typed_here_if_same c g next λ t p. new_type_same i.at (shape.Arr (record { packed = packed; index = i.bounds; component = c; size = size_of t; cells = array_cells i.bounds (size_of t); file = file_in t })) next λ x h. arrays_same packed outer x h
+    arrays_same packed (i ∷ outer) c g = typed_here_if_same c g
+        next λ t p. new_type_same i.at
+        (shape.Arr (record { packed = packed; index = i.bounds; component = c; size = size_of t; cells = array_cells i.bounds (size_of t); file = file_in t }))
+        next λ x h. arrays_same packed outer x h
 
-    field_same : (id : Option TypeId) (t : Option Typed) (in' : Option InVariant) (tags : Option ℕ) (r : RecordSoFar) (x : Identifier) → Same a b Kept (field id t in' tags r x) Any
-    field_same id t in' tags r x = rule_same (same_report_if (is_some (slot_named x.name r.slots)) 304 x.at) next λ u p. same_pure (with_slot id t in' tags (free_name r.slots x.name) r) tt
+    field_same : (id : Option TypeId) (t : Option Typed) (in' : Option InVariant) (tags : Option ℕ) (r : RecordSoFar) (x : Identifier) →
+        Same a b Kept (field id t in' tags r x) Any
+    field_same id t in' tags r x = rule_same (same_report_if (is_some (slot_named x.name r.slots)) 304 x.at)
+        next λ u p. same_pure (with_slot id t in' tags (free_name r.slots x.name) r) tt
 
     fields_same : (id : Option TypeId) (t : Option Typed) (in' : Option InVariant) (r : RecordSoFar) (xs : List Identifier) → Same a b Kept (fields_of id t in' r xs) Any
     fields_same id t in' r [] = same_pure r tt
@@ -304,7 +331,8 @@ module _ (a b : Answers) (path : List PathStep) (shapes : (p : List PathStep) (a
 
     tag_same : (id : Option TypeId) (n : ℕ) (in' : Option InVariant) (x : Option Identifier) (r : RecordSoFar) → Same a b Kept (tag_slot id n in' x r) Any
     tag_same id n in' None r = same_pure (tag_cell id n in' None r) tt
-    tag_same id n in' (Some x) r = rule_same (same_report_if (is_some (slot_named x.name r.slots)) 304 x.at) next λ u p. same_pure (tag_cell id n in' (free_name r.slots x.name) r) tt
+    tag_same id n in' (Some x) r = rule_same (same_report_if (is_some (slot_named x.name r.slots)) 304 x.at)
+        next λ u p. same_pure (tag_cell id n in' (free_name r.slots x.name) r) tt
 
     abbrev here : Option ℕ → TypePlace
     here end = record { path = path; type_part_end = end }
@@ -313,18 +341,21 @@ module _ (a b : Answers) (path : List PathStep) (shapes : (p : List PathStep) (a
       pub denote_same : (end : Option ℕ) (d : PlainDenoter) → Same a b Kept (denote (here end) d) (TypeIfWithin path)
       denote_same end (Named x) = type_name_same x
       denote_same end (Enumeration at xs) = fill_constants_same (type.Own path at) 0 xs next λ u p. new_type_same at (shape.Names (map (λ x. x.name) xs))
-      denote_same end (Subrange first last) = looking_same (bounds first last) (λ find f. bounds_same a b path find f first last) next λ o p. new_range_same (first_of_constant first) o
+      denote_same end (Subrange first last) = looking_same (bounds first last) (λ find f. bounds_same a b path find f first last)
+          next λ o p. new_range_same (first_of_constant first) o
       denote_same end (Pointer at x) = domain_same end x next λ d g. new_type_same at (shape.Ptr d)
       denote_same end (Array at packed is d) = indices_same end is next λ outer p. denote_same end d next λ c g. arrays_same packed outer c g
       denote_same end (Record at packed d) = field_list_same end None d empty_record next λ r p. new_type_same at (record_shape packed r)
-      denote_same end (Set at packed d) = denote_same end d next λ t g. ordinal_type_same (first_of_denoter d) t g next λ o p. rule_same (base_by_same a b (first_of_denoter d) o) next λ c p. new_type_same at (shape.SetOf (Some packed) c)
+      denote_same end (Set at packed d) = denote_same end d next λ t g. ordinal_type_same (first_of_denoter d) t g
+          next λ o p. rule_same (base_by_same a b (first_of_denoter d) o) next λ c p. new_type_same at (shape.SetOf (Some packed) c)
       denote_same end (File at file d) = denote_same end d next λ t g. rule_same (same_refuse 321 file tt)
       denote_same end (Fields fixed) = rule_same (same_refuse 321 0 tt)
       denote_same end (FieldsWithVariants fixed at tag of vs) = rule_same (same_refuse 321 at tt)
 
       pub indices_same : (end : Option ℕ) (is : PlainIndices) → Same a b Kept (indices (here end) is) Any
       indices_same end NoIndices = same_pure [] tt
-      indices_same end (Index at d more) = denote_same end d next λ t g. ordinal_type_same (first_of_denoter d) t g next λ o p. indices_same end more next λ outer p. same_pure (outer ++ record { at = at; bounds = o } ∷ []) tt
+      indices_same end (Index at d more) = denote_same end d next λ t g. ordinal_type_same (first_of_denoter d) t g next λ o p. indices_same end more
+          next λ outer p. same_pure (outer ++ record { at = at; bounds = o } ∷ []) tt
 
       pub field_list_same : (end : Option ℕ) (in' : Option InVariant) (d : PlainDenoter) (r : RecordSoFar) → Same a b Kept (field_list (here end) in' d r) Any
       field_list_same end in' (Fields fixed) r = fixed_same end in' fixed r
@@ -341,10 +372,12 @@ module _ (a b : Answers) (path : List PathStep) (shapes : (p : List PathStep) (a
       fixed_same end in' (Section xs d more) r =
           denote_same end d next λ id g. typed_here_if_same id g next λ t p. fields_same id t in' r xs next λ s p. fixed_same end in' more s
 
-      pub variants_same : (end : Option ℕ) (k n : ℕ) (host : Option TypeId) (vs : PlainVariants) (v : VariantsSoFar) (r : Reading) → Same a b Kept (variants (here end) k n host vs v r) Any
+      pub variants_same : (end : Option ℕ) (k n : ℕ) (host : Option TypeId) (vs : PlainVariants) (v : VariantsSoFar) (r : Reading) →
+          Same a b Kept (variants (here end) k n host vs v r) Any
       variants_same end k n host NoVariants v r = same_pure (close_part k v.variants r.before r.now) tt
       variants_same end k n host (Variant cs d more) v r =
-          looking_same (λ find. selecting find host cs (record { values = []; known = v.known })) (λ find f. selecting_same a b path find f host cs (record { values = []; known = v.known }))
+          looking_same (λ find. selecting find host cs (record { values = []; known = v.known }))
+          (λ find f. selecting_same a b path find f host cs (record { values = []; known = v.known }))
           next λ s p. field_list_same end (Some (record { part = k; variant = n })) d r.now
           next λ u p. variants_same end k (n + 1) host more (more_variants v s) (record r { now = u })
 
@@ -381,7 +414,8 @@ module _ (a b : Answers) (path : List PathStep) (shapes : (p : List PathStep) (a
       section_same depth n (Values xs of) = value_type_same of next λ t g. same_pure (map (one depth n formal.Value t) xs) (ones_within depth n formal.Value t xs g)
       section_same depth n (Variables at xs of) = type_name_same of next λ t g. same_pure (map (one depth n formal.Variable t) xs) (ones_within depth n formal.Variable t xs g)
       section_same depth n (Procedure at x own) = formals_same (depth + 1) 0 [] own next λ fs g. same_pure (one depth n formal.Procedure None x ∷ fs) (tt, g)
-      section_same depth n (Function at x own result) = formals_same (depth + 1) 0 [] own next λ fs g. result_type_same result next λ t h. same_pure (one depth n formal.Function t x ∷ fs) (h, g)
+      section_same depth n (Function at x own result) = formals_same (depth + 1) 0 [] own next λ fs g. result_type_same result
+          next λ t h. same_pure (one depth n formal.Function t x ∷ fs) (h, g)
 
     result_if_same : (x : Option Identifier) → Same a b Kept (result_if path x) (TypeIfWithin path)
     result_if_same None = same_pure None tt
@@ -402,7 +436,8 @@ module _ (a b : Answers) (path : List PathStep) (shapes : (p : List PathStep) (a
       block = record { path = path; own = own; heading = given_heading }
 
       constant_definition_same : (d : ConstantDefinition) → Same a b Kept (constant_definition block d) Any
-      constant_definition_same d = looking_same (λ find. constant find d.value) (λ find f. constant_same a b path find f d.value) next λ v p. fill_same d.name.name d.name.at (decl.Const path v) tt (is.constants v)
+      constant_definition_same d = looking_same (λ find. constant find d.value) (λ find f. constant_same a b path find f d.value)
+          next λ v p. fill_same d.name.name d.name.at (decl.Const path v) tt (is.constants v)
 
       type_definition_same : (d : PlainTypeDefinition) → Same a b Kept (type_definition block d) Any
       type_definition_same d = denote_same (Some (type_part_end own.types)) d.of next λ t g. fill_same d.name.name d.name.at (decl.Sort path t) g (is.types t)
@@ -419,7 +454,8 @@ module _ (a b : Answers) (path : List PathStep) (shapes : (p : List PathStep) (a
       variables_same t cells [] = same_pure tt tt
       variables_same t cells (x ∷ xs) =
           start_same
-          next λ start p. fill_same x.name x.at (decl.Var path (record { of = t; offset = start; control = is_control block x.name })) tt (is.variables (record { of = t; offset = start; control = is_control block x.name }))
+          next λ start p. fill_same x.name x.at (decl.Var path (record { of = t; offset = start; control = is_control block x.name })) tt
+          (is.variables (record { of = t; offset = start; control = is_control block x.name }))
           next λ u p. add_slot_same x.name frame_kind.Variable t cells
           next λ u p. variables_same t cells xs
 
@@ -431,10 +467,12 @@ module _ (a b : Answers) (path : List PathStep) (shapes : (p : List PathStep) (a
       domain_type_same : (end : ℕ) (p : PointerType) → Same a b Kept (domain_type block end p) Any
       domain_type_same end p =
           looked
-          next λ d g. change_same (λ k. record k { shapes = map (pointing p.at d) k.shapes }) (λ k i. record { keys = i.keys; points = i.points; own = i.own; headings = i.headings; nested = i.nested })
+          next λ d g. change_same (λ k. record k { shapes = map (pointing p.at d) k.shapes })
+          (λ k i. record { keys = i.keys; points = i.points; own = i.own; headings = i.headings; nested = i.nested })
         where
           looked : Same a b Kept (λ k. by_rule (look_at path k.names p.domain.at p.domain.name end >>= type_use p.domain.at) k) Any
-          looked = record { by = λ k i. let r = (rule_same (look_same k i p.domain.at p.domain.name end next λ u g. type_use_same a b path p.domain.at u g)).by k i in (r.0, r.1, tt) }
+          looked =
+              record { by = λ k i. let r = (rule_same (look_same k i p.domain.at p.domain.name end next λ u g. type_use_same a b path p.domain.at u g)).by k i in (r.0, r.1, tt) }
 
       domain_types_same : Same a b Kept (domain_types block) Any
       domain_types_same = same_each (domain_type block (type_part_end own.types)) (domain_type_same (type_part_end own.types)) (flat_map (λ d. pointers d.of) own.types)
@@ -445,11 +483,13 @@ module _ (a b : Answers) (path : List PathStep) (shapes : (p : List PathStep) (a
       headed_within [] at g = (tt, tt)
       headed_within (h ∷ hs) at g = by (nat_eq h.at at) (headed_within hs at g.1)
         where
-          by : (x : Bool) → HeadingWithin path (unwrap_or (option_map (λ y. y.heading) (find (λ y. nat_eq y.at at) hs)) no_heading) → HeadingWithin path (unwrap_or (option_map (λ y. y.heading) (cond x (Some h) (find (λ y. nat_eq y.at at) hs))) no_heading)
+          by : (x : Bool) → HeadingWithin path (unwrap_or (option_map (λ y. y.heading) (find (λ y. nat_eq y.at at) hs)) no_heading) →
+              HeadingWithin path (unwrap_or (option_map (λ y. y.heading) (cond x (Some h) (find (λ y. nat_eq y.at at) hs))) no_heading)
           by true f = g.0
           by false f = f
 
-      parameters_cells_same : (p : FormalParameter) (k : FormalKind) → TypeIfWithin path p.formal.of → Same a b Kept (parameter_cells path (record p { formal = record p.formal { kind = k } })) Any
+      parameters_cells_same : (p : FormalParameter) (k : FormalKind) → TypeIfWithin path p.formal.of →
+          Same a b Kept (parameter_cells path (record p { formal = record p.formal { kind = k } })) Any
       parameters_cells_same p formal.Value g = typed_here_if_same p.formal.of g next λ t q. same_pure (size_of t) tt
       parameters_cells_same p k g = same_pure 1 tt
 
@@ -457,37 +497,58 @@ module _ (a b : Answers) (path : List PathStep) (shapes : (p : List PathStep) (a
       cells_same [] g = same_pure 0 tt
       cells_same (f ∷ fs) g = by (nat_eq f.depth 0) (cells_same fs g.1)
         where
-          by : (x : Bool) → Same a b Kept (cells_of_parameters path (parameters_in fs)) Any → Same a b Kept (cells_of_parameters path (cond x (record { formal = f; own = own_heading f fs } ∷ parameters_in fs) (parameters_in fs))) Any
+          by : (x : Bool) → Same a b Kept (cells_of_parameters path (parameters_in fs)) Any →
+              Same a b Kept (cells_of_parameters path (cond x (record { formal = f; own = own_heading f fs } ∷ parameters_in fs) (parameters_in fs))) Any
           by true c = parameters_cells_same (record { formal = f; own = own_heading f fs }) f.kind g.0 next λ n p. c next λ m q. same_pure (sum_of (n ∷ m ∷ [])) tt
           by false c = c
 
-      routine_within : (d : PlainDeclaration) (k : HeadingKind) (earlier later : List PlainDeclaration) (h : Heading) (cells : ℕ) → DeclWithin path (routine block (record d { heading = record d.heading { kind = k } }) earlier later h cells)
+      routine_within : (d : PlainDeclaration) (k : HeadingKind) (earlier later : List PlainDeclaration) (h : Heading) (cells : ℕ) →
+          DeclWithin path (routine block (record d { heading = record d.heading { kind = k } }) earlier later h cells)
       routine_within d heading_kind.Procedure earlier later h cells = tt
       routine_within d (heading_kind.Function x) earlier later h cells = tt
 
-      routine_is : (d : PlainDeclaration) (k : HeadingKind) (earlier later : List PlainDeclaration) (h : Heading) (cells : ℕ) → D (routine block (record d { heading = record d.heading { kind = k } }) earlier later h cells)
-      routine_is d heading_kind.Procedure earlier later h cells = is.procedures (record { heading = h; block = block_path path (record d { heading = record d.heading { kind = heading_kind.Procedure } }) earlier later })
-      routine_is d (heading_kind.Function x) earlier later h cells = is.functions (record { heading = h; block = block_path path (record d { heading = record d.heading { kind = heading_kind.Function x } }) earlier later }) cells
+      routine_is : (d : PlainDeclaration) (k : HeadingKind) (earlier later : List PlainDeclaration) (h : Heading) (cells : ℕ) →
+          D (routine block (record d { heading = record d.heading { kind = k } }) earlier later h cells)
+      routine_is d heading_kind.Procedure earlier later h cells =
+          is.procedures (record { heading = h; block = block_path path (record d { heading = record d.heading { kind = heading_kind.Procedure } }) earlier later })
+      routine_is d (heading_kind.Function x) earlier later h cells =
+          is.functions (record { heading = h; block = block_path path (record d { heading = record d.heading { kind = heading_kind.Function x } }) earlier later }) cells
 
-      define_same : (d : PlainDeclaration) (earlier later : List PlainDeclaration) (h : Heading) → HeadingWithin path h → Same a b Kept (define_routine block d earlier later h) Any
+      define_same : (d : PlainDeclaration) (earlier later : List PlainDeclaration) (h : Heading) → HeadingWithin path h →
+          Same a b Kept (define_routine block d earlier later h) Any
       define_same d earlier later h g =
           rule_same (same_report_if (is_function d.heading.kind && not (is_some (named_result d.heading.kind))) 314 d.heading.name.at)
-          next λ u p. change_same (λ k. record k { headings = record { at = d.heading.name.at; heading = h } ∷ k.headings }) (λ k i. record { keys = i.keys; points = i.points; own = i.own; headings = (g, i.headings); nested = i.nested })
+          next λ u p. change_same (λ k. record k { headings = record { at = d.heading.name.at; heading = h } ∷ k.headings })
+          (λ k i. record { keys = i.keys; points = i.points; own = i.own; headings = (g, i.headings); nested = i.nested })
           next λ u p. cells_same h.formals g.0
-          next λ cells p. fill_same (name_of d) d.heading.name.at (routine block d earlier later h cells) (routine_within d d.heading.kind earlier later h cells) (routine_is d d.heading.kind earlier later h cells)
+          next λ cells p. fill_same (name_of d) d.heading.name.at (routine block d earlier later h cells) (routine_within d d.heading.kind earlier later h cells)
+          (routine_is d d.heading.kind earlier later h cells)
 
       nested_append : (xs : List Nested) (x : Nested) → AllNestedWithin path xs → HeadingWithin path x.heading → AllNestedWithin path (xs ++ x ∷ [])
       nested_append [] x g h = (h, tt)
       nested_append (y ∷ xs) x g h = (g.0, nested_append xs x g.1 h)
 
-      nest_kept : (d : PlainDeclaration) (earlier : List PlainDeclaration) (k : Known) (x : Bool) → Kept k → Kept (cond x (record k { nested = k.nested ++ record { step = step_of d earlier; heading = headed k.headings (origin d earlier); function = is_function d.heading.kind; semicolon = d.semicolon } ∷ [] }) k)
+      nest_kept : (d : PlainDeclaration) (earlier : List PlainDeclaration) (k : Known) (x : Bool) → Kept k →
+          Kept (cond x
+          (record k {
+            nested =
+                k.nested ++ record {
+                  step = step_of d earlier;
+                  heading = headed k.headings (origin d earlier);
+                  function = is_function d.heading.kind;
+                  semicolon = d.semicolon;
+                } ∷ [];
+          }) k)
       nest_kept d earlier k true i =
           record {
             keys = i.keys;
             points = i.points;
             own = i.own;
             headings = i.headings;
-            nested = nested_append k.nested (record { step = step_of d earlier; heading = headed k.headings (origin d earlier); function = is_function d.heading.kind; semicolon = d.semicolon }) i.nested (headed_within k.headings (origin d earlier) i.headings);
+            nested =
+                nested_append k.nested
+                (record { step = step_of d earlier; heading = headed k.headings (origin d earlier); function = is_function d.heading.kind; semicolon = d.semicolon }) i.nested
+                (headed_within k.headings (origin d earlier) i.headings);
           }
       nest_kept d earlier k false i = i
 
@@ -497,7 +558,8 @@ module _ (a b : Answers) (path : List PathStep) (shapes : (p : List PathStep) (a
       forward_same : (d : PlainDeclaration) (later : List PlainDeclaration) → Same a b Any (forward_heading d later) Any
       forward_same d later = same_report_if (not (is_block d.body) && not (list_any (alike d) later)) 312 d.heading.name.at
 
-      one_routine_same : (d : PlainDeclaration) (earlier later : List PlainDeclaration) (h : Heading) → HeadingWithin path h → Same a b Kept (if completes d earlier then by_rule (completing_heading d) else define_routine block d earlier later h) Any
+      one_routine_same : (d : PlainDeclaration) (earlier later : List PlainDeclaration) (h : Heading) → HeadingWithin path h →
+          Same a b Kept (if completes d earlier then by_rule (completing_heading d) else define_routine block d earlier later h) Any
       one_routine_same d earlier later h g = same_if (completes d earlier) (rule_same (completing_same d)) (define_same d earlier later h g)
 
       nest_same : (d : PlainDeclaration) (earlier : List PlainDeclaration) → Same a b Kept (change (nest d earlier)) Any
@@ -514,14 +576,20 @@ module _ (a b : Answers) (path : List PathStep) (shapes : (p : List PathStep) (a
 
       program_parameters_same : (known : Points) (earlier xs : List Identifier) → Same a b Any (program_parameters known earlier xs) Any
       program_parameters_same known earlier [] = same_pure tt tt
-      program_parameters_same known earlier (x ∷ xs) = same_report_if (list_any (λ y. bytes_eq x.name y.name) earlier) 304 x.at next λ u p. same_report_if (not (is_some (standard_file x.name)) && not (is_text_variable (lookup (bytes_eq x.name) known))) 326 x.at next λ u p. program_parameters_same known (x ∷ earlier) xs
+      program_parameters_same known earlier (x ∷ xs) = same_report_if (list_any (λ y. bytes_eq x.name y.name) earlier) 304 x.at
+          next λ u p. same_report_if (not (is_some (standard_file x.name)) && not (is_text_variable (lookup (bytes_eq x.name) known))) 326 x.at
+          next λ u p. program_parameters_same known (x ∷ earlier) xs
 
       program_heading_same : (h : Option ProgramHeading) → Same a b Kept (program_heading h) Any
       program_heading_same None = same_pure tt tt
       program_heading_same (Some h) = record { by = λ k i. (rule_same (program_parameters_same k.names [] h.parameters)).by k i }
 
       -- what follows the names of the block
-      pub definitions_same : Same a b Kept (by_rule (labels [] own.labels) >> (each (constant_definition block) own.constants >> (each (type_definition block) own.types >> (domain_types block >> (variable_part block own.variables >> (routine_declarations block [] own.declarations >> program_heading own.program)))))) Any
+      pub definitions_same : Same a b Kept
+          (by_rule (labels [] own.labels) >>
+          (each (constant_definition block) own.constants >>
+          (each (type_definition block) own.types >>
+          (domain_types block >> (variable_part block own.variables >> (routine_declarations block [] own.declarations >> program_heading own.program)))))) Any
       definitions_same =
           rule_same (labels_same [] own.labels)
           next λ u p. same_each (constant_definition block) constant_definition_same own.constants

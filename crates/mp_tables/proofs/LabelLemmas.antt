@@ -53,7 +53,8 @@ values_in v (n ∷ ns) e = by (has_value v n) refl e (values_in v ns)
     behind true k = refl
     behind false k = k
 
-    by : (b : Bool) → has_value v n ≡ b → (b || list_any (has_value v) ns) ≡ true → (list_any (has_value v) ns ≡ true → list_any (nat_eq v) (map (λ m. m.value) ns) ≡ true) → (nat_eq v n.value || list_any (nat_eq v) (map (λ m. m.value) ns)) ≡ true
+    by : (b : Bool) → has_value v n ≡ b → (b || list_any (has_value v) ns) ≡ true → (list_any (has_value v) ns ≡ true → list_any (nat_eq v) (map (λ m. m.value) ns) ≡ true) →
+        (nat_eq v n.value || list_any (nat_eq v) (map (λ m. m.value) ns)) ≡ true
     by true p q f = ap (λ x. x || list_any (nat_eq v) (map (λ m. m.value) ns)) (eq-eqb v n.value (sym (eqb-true n.value v p)))
     by false p q f = behind (nat_eq v n.value) (f q)
 
@@ -62,23 +63,30 @@ standing_in (decl.Label q s) = Some s
 standing_in _ = None
 
 module _ (tables : List Table) (complete : Complete tables) where
-  block_labelled : (b : PlacedBlock) → table_at tables b.path ≡ Some (table_after tables b) → errors_in (answers_of tables) b.path b.own ≡ [] → LabelsStand tables (typed_in (answers_of tables) b.path b.own)
+  block_labelled : (b : PlacedBlock) → table_at tables b.path ≡ Some (table_after tables b) → errors_in (answers_of tables) b.path b.own ≡ [] →
+      LabelsStand tables (typed_in (answers_of tables) b.path b.own)
   block_labelled b t e l d =
       let a : Answers = answers_of tables in
       let none = (no_front ((elaborate b.path b.own).run a).errors ((statement_part b.path b.own []).run a).1 (no_reports ((judge b.path b.own).run a).reports e)).0 in
-      let g = found (lookup (bytes_eq (label_name l)) (table_after tables b).names) (subst (λ o. option_map (λ x. x.decl) (option_and_then (λ y. lookup (bytes_eq (label_name l)) y.names) o) ≡ Some (decl.Label b.path standing.Outermost)) t d) in
+      let g = found (lookup (bytes_eq (label_name l)) (table_after tables b).names)
+      (subst (λ o. option_map (λ x. x.decl) (option_and_then (λ y. lookup (bytes_eq (label_name l)) y.names) o) ≡ Some (decl.Label b.path standing.Outermost)) t d) in
       let k = (labelled_last a (the_block tables b.path b.own) (name_at b.path)).labels (label_name l) g.0 b.path standing.Outermost g.1 g.2 in
       let small = small_in b.own.labels k.0 (labels_small a (the_block tables b.path b.own) (name_at b.path) none) k.2 in
       let same : k.0 ≡ l = label_same k.0 l small (sym k.1) in
       let outer : standing_of (statements_of_part b.own.statements) k.0 ≡ standing.Outermost = sym (some_inj (ap standing_in k.3)) in
-      let stands = values_in l (outermost_prefixes (statements_of_part b.own.statements)) (subst (λ v. list_any (has_value v) (outermost_prefixes (statements_of_part b.own.statements)) ≡ true) same (outermost_is (statements_of_part b.own.statements) k.0 outer)) in
+      let stands =
+      values_in l (outermost_prefixes (statements_of_part b.own.statements))
+      (subst (λ v. list_any (has_value v) (outermost_prefixes (statements_of_part b.own.statements)) ≡ true) same
+      (outermost_is (statements_of_part b.own.statements) k.0 outer)) in
       subst (λ ns. list_any (nat_eq l) ns ≡ true) (sym (block_labels tables complete b.path b.own e)) stands
     where
-      found : (o : Option Entry) → option_map (λ x. x.decl) o ≡ Some (decl.Label b.path standing.Outermost) → (x : Entry) × (o ≡ Some x) × (x.decl ≡ decl.Label b.path standing.Outermost)
+      found : (o : Option Entry) → option_map (λ x. x.decl) o ≡ Some (decl.Label b.path standing.Outermost) → (x : Entry) × (o ≡ Some x)
+          × (x.decl ≡ decl.Label b.path standing.Outermost)
       found None h = none_some h
       found (Some x) h = (x, refl, some_inj h)
 
-  blocks_labelled : (bs : List PlacedBlock) → AllByRecursion (λ b. table_at tables b.path ≡ Some (table_after tables b)) bs → flat_map (errors_at (answers_of tables)) bs ≡ [] → AllByRecursion (λ b. LabelsStand tables (typed_in (answers_of tables) b.path b.own)) bs
+  blocks_labelled : (bs : List PlacedBlock) → AllByRecursion (λ b. table_at tables b.path ≡ Some (table_after tables b)) bs → flat_map (errors_at (answers_of tables)) bs ≡ [] →
+      AllByRecursion (λ b. LabelsStand tables (typed_in (answers_of tables) b.path b.own)) bs
   blocks_labelled [] t e = tt
   blocks_labelled (b ∷ bs) t e =
       let h = no_front (errors_at (answers_of tables) b) (flat_map (errors_at (answers_of tables)) bs) e in
@@ -86,4 +94,5 @@ module _ (tables : List Table) (complete : Complete tables) where
 
 pub labels_found : (program : PlainTree) → LabelsFound program
 labels_found program missing accepted =
-    blocks_labelled (tables_of program) (made_complete program missing) (blocks program) (tables_are_stable program) (no_reports (flat_map (errors_at (answers_of (tables_of program))) (blocks program)) accepted)
+    blocks_labelled (tables_of program) (made_complete program missing) (blocks program) (tables_are_stable program)
+    (no_reports (flat_map (errors_at (answers_of (tables_of program))) (blocks program)) accepted)

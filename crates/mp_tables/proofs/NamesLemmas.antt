@@ -52,7 +52,8 @@ module _ (at : ℕ) (d : Decl) where
     where
       by : (b : Bool) → bytes_eq n p.0 ≡ b → cond b (Some p.1) (lookup (bytes_eq n) es) ≡ Some e →
           (lookup (bytes_eq n) es ≡ Some e → set_value (bytes_eq n) es (refilled e) ≡ filled n at d es) →
-          cond b ((p.0, refilled e) ∷ es) (p ∷ set_value (bytes_eq n) es (refilled e)) ≡ cond (b && nat_eq p.1.at at) (n, record { decl = d; at = at; last = p.1.last }) p ∷ filled n at d es
+          cond b ((p.0, refilled e) ∷ es) (p ∷ set_value (bytes_eq n) es (refilled e)) ≡ cond (b && nat_eq p.1.at at)
+          (n, record { decl = d; at = at; last = p.1.last }) p ∷ filled n at d es
       by true same h f =
           let own : p.1 ≡ e = cc in
           let key = (bytes_eq-Decides n p.0).0 same in

@@ -111,7 +111,8 @@ module _ (a : Answers) where
   bounds_by_named : (at : ℕ) (x y : Option ConstantValue) → Clean a (bounds_by at x y) (λ o. IsSome x → IsSome y → IsSome o)
   bounds_by_named at None y = clean_pure None (λ g h. g)
   bounds_by_named at (Some v) None = clean_pure None (λ g h. h)
-  bounds_by_named at (Some (value.Ordinal h m)) (Some (value.Ordinal i n)) = clean_if _ (clean_refuse 317 at) (clean_if _ (clean_refuse 316 at) (clean_pure (Some (record { host = h; low = m; high = n })) (λ g h. refl)))
+  bounds_by_named at (Some (value.Ordinal h m)) (Some (value.Ordinal i n)) =
+      clean_if _ (clean_refuse 317 at) (clean_if _ (clean_refuse 316 at) (clean_pure (Some (record { host = h; low = m; high = n })) (λ g h. refl)))
   bounds_by_named at (Some v) (Some x) = clean_refuse 317 at
 
   module _ (F : Type 0) (find : Lookup) (f : (x : Identifier) → Clean a (find x) (λ u. F → UseNamed u)) where
@@ -169,7 +170,8 @@ module _ (a : Answers) (path : List PathStep) (asked : (n : List ℕ) (o : ℕ) 
       by None q = clean_lift (find_name n (record { path = path; ordinal = place })) then λ s. declared_named a at s so λ u g e p. g (subst SeenNamed (sym e) (asked n place))
       by (Some x) q = declared_named a at (seen_entry place x) so λ u g p. g (entry x _ (found_named n ps x p q))
 
-  looks : {A : Type 0} {F : Type 0} {P : A → Type 0} (m : Lookup → Rule A) → ((G : Type 0) (find : Lookup) → ((x : Identifier) → Clean a (find x) (λ u. G → UseNamed u)) → Clean a (m find) (λ x. G → P x)) → Sound a F (looking path m) P
+  looks : {A : Type 0} {F : Type 0} {P : A → Type 0} (m : Lookup → Rule A) →
+      ((G : Type 0) (find : Lookup) → ((x : Identifier) → Clean a (find x) (λ u. G → UseNamed u)) → Clean a (m find) (λ x. G → P x)) → Sound a F (looking path m) P
   looks m f =
       record { by = λ k e. let r = (f (AllPoints NamedDecl k.names) (look path k.names) (λ x. look_named x.at x.name x.at k.names)).by k.errors e in (r.0, λ p i. (i, r.1 i)) }
 
@@ -232,7 +234,8 @@ module _ (a : Answers) (path : List PathStep) (asked : (n : List ℕ) (o : ℕ) 
   reported_named : {F : Type 0} (b : Bool) (code at : ℕ) → Sound a F (by_rule (report_if b code at)) Any
   reported_named b code at = ruled (weaken (λ x p q. tt) (clean_report_if b code at))
 
-  field_named : {F : Type 0} (id : Option TypeId) (t : Option Typed) (in' : Option InVariant) (tags : Option ℕ) (r : RecordSoFar) (x : Identifier) → Sound a F (field id t in' tags r x) Any
+  field_named : {F : Type 0} (id : Option TypeId) (t : Option Typed) (in' : Option InVariant) (tags : Option ℕ) (r : RecordSoFar) (x : Identifier) →
+      Sound a F (field id t in' tags r x) Any
   field_named id t in' tags r x = reported_named (is_some (slot_named x.name r.slots)) 304 x.at thus λ u. give (with_slot id t in' tags (free_name r.slots x.name) r) (λ p. tt)
 
   fields_named : {F : Type 0} (id : Option TypeId) (t : Option Typed) (in' : Option InVariant) (r : RecordSoFar) (xs : List Identifier) → Sound a F (fields_of id t in' r xs) Any
@@ -250,18 +253,23 @@ module _ (a : Answers) (path : List PathStep) (asked : (n : List ℕ) (o : ℕ) 
     pub denote_named : (end : Option ℕ) (d : PlainDenoter) → Sound a (Unit {0}) (denote (here end) d) IsSome
     denote_named end (Named x) = named_type x
     denote_named end (Enumeration at xs) = constants_named (type.Own path at) 0 xs thus λ u. makes at (shape.Names (map (λ x. x.name) xs))
-    denote_named end (Subrange first last) = looks (bounds first last) (λ G find f. bounds_named a G find f first last) thus λ o. range_named (first_of_constant first) o (λ p. p.1)
+    denote_named end (Subrange first last) =
+        looks (bounds first last) (λ G find f. bounds_named a G find f first last) thus λ o. range_named (first_of_constant first) o (λ p. p.1)
     denote_named end (Pointer at x) = domain_named end x thus λ d. makes at (shape.Ptr d)
     denote_named end (Array at packed is d) = indices_named end is thus λ outer. at_any (denote_named end d) thus λ c. arrays_named packed outer c (λ p. p.1)
     denote_named end (Record at packed d) = field_list_named end None d empty_record thus λ r. makes at (record_shape packed r)
-    denote_named end (Set at packed d) = denote_named end d thus λ t. ordinal_named (first_of_denoter d) t thus λ o. any_of (ruled {P = Any} (weaken (λ x p q. tt) (base_by_any a (first_of_denoter d) o))) thus λ c. makes at (shape.SetOf (Some packed) c)
+    denote_named end (Set at packed d) =
+        denote_named end d thus λ t. ordinal_named (first_of_denoter d) t thus λ o. any_of
+        (ruled {P = Any} (weaken (λ x p q. tt) (base_by_any a (first_of_denoter d) o))) thus λ c. makes at (shape.SetOf (Some packed) c)
     denote_named end (File at file d) = denote_named end d thus λ t. ruled (clean_refuse 321 file)
     denote_named end (Fields fixed) = ruled (clean_refuse 321 0)
     denote_named end (FieldsWithVariants fixed at tag of vs) = ruled (clean_refuse 321 at)
 
     pub indices_named : (end : Option ℕ) (is : PlainIndices) → Sound a (Unit {0}) (indices (here end) is) Any
     indices_named end NoIndices = give [] (λ p. tt)
-    indices_named end (Index at d more) = denote_named end d thus λ t. ordinal_named (first_of_denoter d) t thus λ o. at_any (indices_named end more) thus λ outer. give (outer ++ record { at = at; bounds = o } ∷ []) (λ p. tt)
+    indices_named end (Index at d more) =
+        denote_named end d thus λ t. ordinal_named (first_of_denoter d) t thus λ o. at_any (indices_named end more) thus λ outer. give
+        (outer ++ record { at = at; bounds = o } ∷ []) (λ p. tt)
 
     pub field_list_named : (end : Option ℕ) (in' : Option InVariant) (d : PlainDenoter) (r : RecordSoFar) → Sound a (Unit {0}) (field_list (here end) in' d r) Any
     field_list_named end in' (Fields fixed) r = fixed_named end in' fixed r
@@ -277,10 +285,13 @@ module _ (a : Answers) (path : List PathStep) (asked : (n : List ℕ) (o : ℕ) 
     fixed_named end in' NoSections r = give r (λ p. tt)
     fixed_named end in' (Section xs d more) r = denote_named end d thus λ id. named_typed_if id thus λ t. fields_named id t in' r xs thus λ s. at_any (fixed_named end in' more s)
 
-    pub variants_named : (end : Option ℕ) (k n : ℕ) (host : Option TypeId) (vs : PlainVariants) (v : VariantsSoFar) (r : Reading) → Sound a (Unit {0}) (variants (here end) k n host vs v r) Any
+    pub variants_named : (end : Option ℕ) (k n : ℕ) (host : Option TypeId) (vs : PlainVariants) (v : VariantsSoFar) (r : Reading) →
+        Sound a (Unit {0}) (variants (here end) k n host vs v r) Any
     variants_named end k n host NoVariants v r = give (close_part k v.variants r.before r.now) (λ p. tt)
     variants_named end k n host (Variant cs d more) v r =
-        looks {P = Any} (λ find. selecting find host cs (record { values = []; known = v.known })) (λ G find f. weaken {Q = λ x. G → Unit {0}} (λ x p q. tt) (selecting_any a find (λ x. weaken {Q = Any} (λ y p. tt) (f x)) host cs (record { values = []; known = v.known })))
+        looks {P = Any} (λ find. selecting find host cs (record { values = []; known = v.known }))
+        (λ G find f. weaken {Q = λ x. G →
+        Unit {0}} (λ x p q. tt) (selecting_any a find (λ x. weaken {Q = Any} (λ y p. tt) (f x)) host cs (record { values = []; known = v.known })))
         thus λ s. at_any (field_list_named end (Some (record { part = k; variant = n })) d r.now)
         thus λ u. at_any (variants_named end k (n + 1) host more (more_variants v s) (record r { now = u }))
 
@@ -313,7 +324,8 @@ module _ (a : Answers) (path : List PathStep) (asked : (n : List ℕ) (o : ℕ) 
     section_named depth n (Values xs of) = value_named of thus λ t. give (map (one depth n formal.Value t) xs) (λ p. ones_named depth n formal.Value t xs p.1)
     section_named depth n (Variables at xs of) = named_type of thus λ t. give (map (one depth n formal.Variable t) xs) (λ p. ones_named depth n formal.Variable t xs p.1)
     section_named depth n (Procedure at x own) = formals_named (depth + 1) 0 [] own thus λ fs. give (one depth n formal.Procedure None x ∷ fs) (λ p. (refl, p.1))
-    section_named depth n (Function at x own result) = formals_named (depth + 1) 0 [] own thus λ fs. at_any (result_named result) thus λ t. give (one depth n formal.Function t x ∷ fs) (λ p. (p.1, p.0.1))
+    section_named depth n (Function at x own result) =
+        formals_named (depth + 1) 0 [] own thus λ fs. at_any (result_named result) thus λ t. give (one depth n formal.Function t x ∷ fs) (λ p. (p.1, p.0.1))
 
   -- what a heading's kind says of its result
   abbrev ResultIs : HeadingKind → Option TypeId → Type 0
@@ -366,7 +378,11 @@ module _ (a : Answers) (path : List PathStep) (asked : (n : List ℕ) (o : ℕ) 
         record {
           by = λ k e.
               let m : Variable = record { of = t; offset = frame_cells k.frame; control = is_control block x.name } in
-              let r = (names_part t cells xs g).by (record k { names = filled x.name x.at (decl.Var path m) k.names; frame = k.frame ++ record { name = x.name; kind = frame_kind.Variable; of = t; offset = frame_cells k.frame; cells = cells } ∷ [] }) e in
+              let r = (names_part t cells xs g).by
+              (record k {
+                names = filled x.name x.at (decl.Var path m) k.names;
+                frame = k.frame ++ record { name = x.name; kind = frame_kind.Variable; of = t; offset = frame_cells k.frame; cells = cells } ∷ [];
+              }) e in
               (r.0, λ p i. r.1 p (filled_all NamedDecl x.name x.at (decl.Var path m) k.names (g p) i));
         }
 
@@ -383,19 +399,23 @@ module _ (a : Answers) (path : List PathStep) (asked : (n : List ℕ) (o : ℕ) 
     all_cells [] = give 0 (λ q. tt)
     all_cells (p ∷ ps) = cells_named p p.formal.kind thus λ n. all_cells ps thus λ m. give (sum_of (n ∷ m ∷ [])) (λ q. tt)
 
-    routine_named : (d : PlainDeclaration) (k : HeadingKind) (earlier later : List PlainDeclaration) (h : Heading) (cells : ℕ) → (is_function k && not (is_some (named_result k))) ≡ false → AreNamed h.formals × ResultIs k h.result → NamedDecl (routine block (record d { heading = record d.heading { kind = k } }) earlier later h cells)
+    routine_named : (d : PlainDeclaration) (k : HeadingKind) (earlier later : List PlainDeclaration) (h : Heading) (cells : ℕ) →
+        (is_function k && not (is_some (named_result k))) ≡ false → AreNamed h.formals × ResultIs k h.result →
+        NamedDecl (routine block (record d { heading = record d.heading { kind = k } }) earlier later h cells)
     routine_named d heading_kind.Procedure earlier later h cells e g = g
     routine_named d (heading_kind.Function None) earlier later h cells e g = true_false e
     routine_named d (heading_kind.Function (Some x)) earlier later h cells e g = g
 
-    define_part : (d : PlainDeclaration) (earlier later : List PlainDeclaration) (h : Heading) → Sound a (AreNamed h.formals × ResultIs d.heading.kind h.result) (define_routine block d earlier later h) Any
+    define_part : (d : PlainDeclaration) (earlier later : List PlainDeclaration) (h : Heading) →
+        Sound a (AreNamed h.formals × ResultIs d.heading.kind h.result) (define_routine block d earlier later h) Any
     define_part d earlier later h =
         first
         thus λ u. change_named (λ k. record k { headings = record { at = d.heading.name.at; heading = h } ∷ k.headings }) (λ k. refl) (λ k. refl)
         thus λ u. all_cells (parameters_in h.formals)
         thus λ cells. fills (name_of d) d.heading.name.at (routine block d earlier later h cells) (λ p. routine_named d d.heading.kind earlier later h cells p.0.0.1 p.0.0.0)
       where
-        first : {F : Type 0} → Sound a F (by_rule (Rattle.mp_tables.specs.Elaboration.first_heading d)) (λ u. (is_function d.heading.kind && not (is_some (named_result d.heading.kind))) ≡ false)
+        first : {F : Type 0} →
+            Sound a F (by_rule (Rattle.mp_tables.specs.Elaboration.first_heading d)) (λ u. (is_function d.heading.kind && not (is_some (named_result d.heading.kind))) ≡ false)
         first = ruled (weaken (λ x e p. e) (clean_report_if (is_function d.heading.kind && not (is_some (named_result d.heading.kind))) 314 d.heading.name.at))
 
     sound_if : {F : Type 0} {m n : Elaboration (Unit {0})} (x : Bool) → Sound a F m Any → Sound a F n Any → Sound a F (cond x m n) Any
@@ -405,16 +425,38 @@ module _ (a : Answers) (path : List PathStep) (asked : (n : List ℕ) (o : ℕ) 
     nest_part : {F : Type 0} (d : PlainDeclaration) (earlier : List PlainDeclaration) → Sound a F (change (nest d earlier)) Any
     nest_part d earlier = change_named (nest d earlier) (λ k. errors (is_block d.body) k) (λ k. names (is_block d.body) k)
       where
-        errors : (x : Bool) (k : Known) → (cond x (record k { nested = k.nested ++ record { step = step_of d earlier; heading = headed k.headings (origin d earlier); function = is_function d.heading.kind; semicolon = d.semicolon } ∷ [] }) k).errors ≡ k.errors
+        errors : (x : Bool) (k : Known) →
+            (cond x (record k {
+              nested =
+                  k.nested ++ record {
+                    step = step_of d earlier;
+                    heading = headed k.headings (origin d earlier);
+                    function = is_function d.heading.kind;
+                    semicolon = d.semicolon;
+                  } ∷ [];
+            }) k).errors ≡ k.errors
         errors true k = refl
         errors false k = refl
 
-        names : (x : Bool) (k : Known) → (cond x (record k { nested = k.nested ++ record { step = step_of d earlier; heading = headed k.headings (origin d earlier); function = is_function d.heading.kind; semicolon = d.semicolon } ∷ [] }) k).names ≡ k.names
+        names : (x : Bool) (k : Known) →
+            (cond x (record k {
+              nested =
+                  k.nested ++ record {
+                    step = step_of d earlier;
+                    heading = headed k.headings (origin d earlier);
+                    function = is_function d.heading.kind;
+                    semicolon = d.semicolon;
+                  } ∷ [];
+            }) k).names ≡ k.names
         names true k = refl
         names false k = refl
 
-    routine_part : (d : PlainDeclaration) (earlier later : List PlainDeclaration) (h : Heading) → Sound a (AreNamed h.formals × ResultIs d.heading.kind h.result) (if completes d earlier then by_rule (completing_heading d) else define_routine block d earlier later h) Any
-    routine_part d earlier later h = sound_if (completes d earlier) (reported_named (has_formals d.heading.formals || is_some (named_result d.heading.kind)) 313 d.heading.name.at) (define_part d earlier later h)
+    routine_part : (d : PlainDeclaration) (earlier later : List PlainDeclaration) (h : Heading) →
+        Sound a (AreNamed h.formals × ResultIs d.heading.kind h.result) (if completes d earlier
+        then by_rule (completing_heading d) else define_routine block d earlier later h) Any
+    routine_part d earlier later h =
+        sound_if (completes d earlier) (reported_named (has_formals d.heading.formals || is_some (named_result d.heading.kind)) 313 d.heading.name.at)
+        (define_part d earlier later h)
 
     under : {A F G : Type 0} {P : A → Type 0} {m : Elaboration A} → (F → G) → Sound a G m P → Sound a F m P
     under f c = record { by = λ k e. let r = c.by k e in (r.0, λ p i. r.1 (f p) i) }
@@ -433,7 +475,11 @@ module _ (a : Answers) (path : List PathStep) (asked : (n : List ℕ) (o : ℕ) 
     heading_part (Some h) = record { by = λ k e. let r = (program_parameters_any a k.names [] h.parameters).by k.errors e in (r.0, λ p i. (i, tt)) }
 
     -- all that follows the names of the block
-    pub definitions_named : Sound a (Unit {0}) (by_rule (labels [] own.labels) >> (each (constant_definition block) own.constants >> (each (type_definition block) own.types >> (domain_types block >> (variable_part block own.variables >> (routine_declarations block [] own.declarations >> program_heading own.program)))))) Any
+    pub definitions_named : Sound a (Unit {0})
+        (by_rule (labels [] own.labels) >>
+        (each (constant_definition block) own.constants >>
+        (each (type_definition block) own.types >>
+        (domain_types block >> (variable_part block own.variables >> (routine_declarations block [] own.declarations >> program_heading own.program)))))) Any
     definitions_named =
         any_of (ruled {P = Any} (weaken (λ x p q. tt) (labels_any a [] own.labels)))
         thus λ u. at_any (each_named (constant_definition block) constant_part own.constants)
@@ -451,12 +497,15 @@ labels_named b (n ∷ ns) = (tt, labels_named b ns)
 
 -- The declarations of a block without errors have their parts, where those of the blocks around it have theirs.
 pub block_named :
-    (a : Answers) (path : List PathStep) (own : PlainBlock) → ((n : List ℕ) (o : ℕ) → SeenNamed (a.name n (record { path = path; ordinal = o }))) → ((elaborate path own).run a).errors ≡ [] →
+    (a : Answers) (path : List PathStep) (own : PlainBlock) → ((n : List ℕ) (o : ℕ) → SeenNamed (a.name n (record { path = path; ordinal = o }))) →
+    ((elaborate path own).run a).errors ≡ [] →
     AllPoints NamedDecl ((elaborate path own).run a).table.names
 block_named a path own asked e =
     let b : Declaring = record { path = path; own = own; heading = a.heading path } in
     let k = after_names a b (name_at path) in
-    let first : AllPoints NamedDecl k.names = points_all path NamedDecl (λ x. tt) (λ x. tt) own (a.heading path) (labels_named b own.labels) (after_given a b (name_at path)).frame (parameters_in (a.heading path).formals) in
+    let first : AllPoints NamedDecl k.names =
+    points_all path NamedDecl (λ x. tt) (λ x. tt) own (a.heading path) (labels_named b own.labels) (after_given a b (name_at path)).frame
+    (parameters_in (a.heading path).formals) in
     (((definitions_named a path asked own (a.heading path)).by k e).1 tt first).0
 
 pub parts_are_there : PartsAreThere

@@ -114,7 +114,10 @@ module _ (path : List PathStep) (D : Decl → Type 0) (required : (x : Required)
 
     variables_all : (ss : PlainSections) → AllPoints D (variable_points of_block ss)
     variables_all NoSections = tt
-    variables_all (Section xs d more) = points_append (map (variable_point of_block) xs ++ enumeration_points of_block d) (variable_points of_block more) (points_append (map (variable_point of_block) xs) (enumeration_points of_block d) (points_map (variable_point of_block) (λ x. required name.Real) xs) (enumeration_all d)) (variables_all more)
+    variables_all (Section xs d more) =
+        points_append (map (variable_point of_block) xs ++ enumeration_points of_block d) (variable_points of_block more)
+        (points_append (map (variable_point of_block) xs) (enumeration_points of_block d) (points_map (variable_point of_block) (λ x. required name.Real) xs)
+        (enumeration_all d)) (variables_all more)
 
     routines_all : (earlier list : List PlainDeclaration) → AllPoints D (routine_points of_block earlier list)
     routines_all earlier [] = tt
@@ -130,18 +133,22 @@ module _ (path : List PathStep) (D : Decl → Type 0) (required : (x : Required)
         let ts = flat_map (type_points of_block) own.types in
         points_append (cs ++ ts ++ variable_points of_block own.variables) (routine_points of_block [] own.declarations)
         (points_append (cs ++ ts) (variable_points of_block own.variables)
-        (points_append cs ts (points_map (constant_point of_block) (λ x. required name.Real) own.constants) (points_flat (type_points of_block) (λ d. (required name.Real, enumeration_all d.of)) own.types))
+        (points_append cs ts (points_map (constant_point of_block) (λ x. required name.Real) own.constants)
+        (points_flat (type_points of_block) (λ d. (required name.Real, enumeration_all d.of)) own.types))
         (variables_all own.variables))
         (routines_all [] own.declarations)
 
     pub points_all : (slots : List FrameSlot) (ps : List FormalParameter) → AllPoints D (points of_block (parameter_points path ps slots))
     points_all slots ps =
         with_all (with_points [] (given_points of_block (parameter_points path ps slots))) (label_points of_block ++ declared_points of_block)
-        (with_all [] (given_points of_block (parameter_points path ps slots)) tt (points_append (program_points own.program) (parameter_points path ps slots) (program_all own.program) (parameters_all ps slots)))
+        (with_all [] (given_points of_block (parameter_points path ps slots)) tt
+        (points_append (program_points own.program) (parameter_points path ps slots) (program_all own.program) (parameters_all ps slots)))
         (points_append (label_points of_block) (declared_points of_block) labelled declared_all)
 
 -- the labels of a block are declared in it
-labels_own : (path : List PathStep) (own : PlainBlock) (h : Heading) (ns : List Number) → ((v : ℕ) → list_any (has_value v) ns ≡ true → list_any (has_value v) own.labels ≡ true) → AllPoints (OwnDecl path own) (map (label_point (record { path = path; own = own; heading = h })) ns)
+labels_own : (path : List PathStep) (own : PlainBlock) (h : Heading) (ns : List Number) →
+    ((v : ℕ) → list_any (has_value v) ns ≡ true → list_any (has_value v) own.labels ≡ true) →
+    AllPoints (OwnDecl path own) (map (label_point (record { path = path; own = own; heading = h })) ns)
 labels_own path own h [] f = tt
 labels_own path own h (n ∷ ns) f = (
   (refl, (n.value, f n.value (ap (λ x. x || list_any (has_value n.value) ns) (eq-eqb n.value n.value refl)), refl)),
@@ -152,7 +159,8 @@ labels_own path own h (n ∷ ns) f = (
     or_true true e = refl
     or_true false e = e
 
-labels_within : (path q : List PathStep) (own : PlainBlock) (h : Heading) (ns : List Number) → AllPoints (DeclWithin q) (map (label_point (record { path = path; own = own; heading = h })) ns)
+labels_within : (path q : List PathStep) (own : PlainBlock) (h : Heading) (ns : List Number) →
+    AllPoints (DeclWithin q) (map (label_point (record { path = path; own = own; heading = h })) ns)
 labels_within path q own h [] = tt
 labels_within path q own h (n ∷ ns) = (tt, labels_within path q own h ns)
 
@@ -163,11 +171,13 @@ pub record Empty (k : Known) : Type 0 where
   pub headings : k.headings ≡ []
   pub nested : k.nested ≡ []
 
-module _ (a b : Answers) (path : List PathStep) (shapes : (p : List PathStep) (at : ℕ) → Within p path → same_path p path ≡ false → b.shape (type.Own p at) ≡ a.shape (type.Own p at)) where
+module _ (a b : Answers) (path : List PathStep) (shapes : (p : List PathStep) (at : ℕ) → Within p path → same_path p path ≡ false →
+    b.shape (type.Own p at) ≡ a.shape (type.Own p at)) where
   slot_same : (n : List ℕ) (kind : FrameKind) (id : Option TypeId) (cells : ℕ) → Same a b Empty (add_slot n kind id cells) Any
   slot_same n kind id cells = record { by = λ k i. (refl, record { names = i.names; headings = i.headings; nested = i.nested }, tt) }
 
-  cells_same : (p : FormalParameter) (k : FormalKind) → TypeIfWithin path p.formal.of → Same a b Empty (parameter_cells path (record p { formal = record p.formal { kind = k } })) Any
+  cells_same : (p : FormalParameter) (k : FormalKind) → TypeIfWithin path p.formal.of →
+      Same a b Empty (parameter_cells path (record p { formal = record p.formal { kind = k } })) Any
   cells_same p formal.Value g = typed_here_if_same a b path shapes p.formal.of g next λ t q. same_pure (size_of t) tt
   cells_same p k g = same_pure 1 tt
 
@@ -175,7 +185,8 @@ module _ (a b : Answers) (path : List PathStep) (shapes : (p : List PathStep) (a
   slots_same [] g = same_pure tt tt
   slots_same (f ∷ fs) g = by (nat_eq f.depth 0) (slots_same fs g.1)
     where
-      by : (x : Bool) → Same a b Empty (parameter_slots path (parameters_in fs)) Any → Same a b Empty (parameter_slots path (cond x (record { formal = f; own = own_heading f fs } ∷ parameters_in fs) (parameters_in fs))) Any
+      by : (x : Bool) → Same a b Empty (parameter_slots path (parameters_in fs)) Any →
+          Same a b Empty (parameter_slots path (cond x (record { formal = f; own = own_heading f fs } ∷ parameters_in fs) (parameters_in fs))) Any
       by true c =
           cells_same (record { formal = f; own = own_heading f fs }) f.kind g.0
           next λ n p. slot_same f.name (frame_kind.Parameter f.kind) (parameter_type (record { formal = f; own = own_heading f fs })) n
@@ -208,13 +219,18 @@ module _ (a b : Answers) (path : List PathStep) (shapes : (p : List PathStep) (a
     own_points n = points block (parameter_points path (parameters_in h.formals) (after_given n).frame)
 
     module _ (n : List ℕ)
-        (names : (m : List ℕ) (o : ℕ) → lookup (bytes_eq m) (own_points n) ≡ None → b.name m (record { path = path; ordinal = o }) ≡ a.name m (record { path = path; ordinal = o }))
+        (names : (m : List ℕ) (o : ℕ) → lookup (bytes_eq m) (own_points n) ≡ None →
+        b.name m (record { path = path; ordinal = o }) ≡ a.name m (record { path = path; ordinal = o }))
         (seen : (m : List ℕ) (o : ℕ) → SeenWithin path (a.name m (record { path = path; ordinal = o }))) where
-      names_known : (k : Known) → Empty k → k.frame ≡ (after_given n).frame → ((names_set block k).run b ≡ (names_set block k).run a) × Keeps path (own_points n) (OwnDecl path own) ((names_set block k).run a).1
+      names_known : (k : Known) → Empty k → k.frame ≡ (after_given n).frame → ((names_set block k).run b ≡ (names_set block k).run a)
+          × Keeps path (own_points n) (OwnDecl path own) ((names_set block k).run a).1
       names_known k i f =
-          let errors = repeated (with_points [] (Rattle.mp_tables.specs.DefiningPoints.given_points block (parameter_points path (parameters_in h.formals) k.frame))) (declared_points block) in
+          let errors =
+          repeated (with_points [] (Rattle.mp_tables.specs.DefiningPoints.given_points block (parameter_points path (parameters_in h.formals) k.frame)))
+          (declared_points block) in
           let r = (repeated_same errors).by k.errors tt in
-          let same_points : points block (parameter_points path (parameters_in h.formals) k.frame) ≡ own_points n = ap (λ fr. points block (parameter_points path (parameters_in h.formals) fr)) f in (
+          let same_points : points block (parameter_points path (parameters_in h.formals) k.frame) ≡ own_points n =
+          ap (λ fr. points block (parameter_points path (parameters_in h.formals) fr)) f in (
             ap (λ p. (tt, record k { errors = p.1; names = points block (parameter_points path (parameters_in h.formals) k.frame) })) r.0,
             record {
               keys = λ m. ap (λ ps. is_some (lookup (bytes_eq m) ps)) same_points;
@@ -226,17 +242,22 @@ module _ (a b : Answers) (path : List PathStep) (shapes : (p : List PathStep) (a
           )
 
       abbrev Declares : Type 0
-      Declares = ((declarations block n nothing_known).run b ≡ (declarations block n nothing_known).run a) × Keeps path (own_points n) (OwnDecl path own) ((declarations block n nothing_known).run a).1
+      Declares = ((declarations block n nothing_known).run b ≡ (declarations block n nothing_known).run a)
+          × Keeps path (own_points n) (OwnDecl path own) ((declarations block n nothing_known).run a).1
 
       declarations_same : Declares
       declarations_same =
           let g = (given_same n).by nothing_known empty_known in
           let s = names_known (after_given n) g.1 refl in
-          let d = (definitions_same a b path shapes (own_points n) names seen (OwnDecl path own) (own_of_block path own) own h).by ((names_set block (after_given n)).run a).1 s.1 in
+          let d = (definitions_same a b path shapes (own_points n) names seen (OwnDecl path own) (own_of_block path own) own h).by
+          ((names_set block (after_given n)).run a).1 s.1 in
           (ap (λ p. ((names_set block p.1 >>=ᵗ rest).run b)) g.0 ∙ ap (λ p. (rest p.1).run b) s.0 ∙ d.0, d.1)
         where
           rest : Threads Known (Unit {0})
-          rest = by_rule (labels [] own.labels) >> (each (constant_definition block) own.constants >> (each (type_definition block) own.types >> (domain_types block >> (variable_part block own.variables >> (routine_declarations block [] own.declarations >> program_heading own.program)))))
+          rest = by_rule (labels [] own.labels) >>
+              (each (constant_definition block) own.constants >>
+              (each (type_definition block) own.types >>
+              (domain_types block >> (variable_part block own.variables >> (routine_declarations block [] own.declarations >> program_heading own.program)))))
 
           infixl 10 ◌>>=ᵗ◌
           ◌>>=ᵗ◌ : Asks ((Unit {0}) × Known) → Threads Known (Unit {0}) → Asks ((Unit {0}) × Known)
@@ -286,14 +307,18 @@ found_test test (y ∷ xs) x e = by (test y) refl e (found_test test xs x)
     by true p q f = subst (λ z. test z ≡ true) (some_inj q) p
     by false p q f = f q
 
-table_within : (tables : List Table) (path : List PathStep) (t : Table) → TablesWithin tables → table_at tables path ≡ Some t → PointsWithin path t.names × AllNestedWithin path t.nested
-table_within tables path t g e = subst (λ p. PointsWithin p t.names × AllNestedWithin p t.nested) (sym (same_path-eq path t.path (found_test (λ x. same_path path x.path) tables t e))) (all tables g e)
+table_within : (tables : List Table) (path : List PathStep) (t : Table) → TablesWithin tables → table_at tables path ≡ Some t → PointsWithin path t.names
+    × AllNestedWithin path t.nested
+table_within tables path t g e =
+    subst (λ p. PointsWithin p t.names × AllNestedWithin p t.nested) (sym (same_path-eq path t.path (found_test (λ x. same_path path x.path) tables t e))) (all tables g e)
   where
     all : (ts : List Table) → TablesWithin ts → find (λ x. same_path path x.path) ts ≡ Some t → PointsWithin t.path t.names × AllNestedWithin t.path t.nested
     all [] g e = none_some e
     all (x ∷ ts) g e = by (same_path path x.path) e (all ts g.1)
       where
-        by : (y : Bool) → cond y (Some x) (find (λ z. same_path path z.path) ts) ≡ Some t → (find (λ z. same_path path z.path) ts ≡ Some t → PointsWithin t.path t.names × AllNestedWithin t.path t.nested) → PointsWithin t.path t.names × AllNestedWithin t.path t.nested
+        by : (y : Bool) → cond y (Some x) (find (λ z. same_path path z.path) ts) ≡ Some t →
+            (find (λ z. same_path path z.path) ts ≡ Some t → PointsWithin t.path t.names × AllNestedWithin t.path t.nested) → PointsWithin t.path t.names
+            × AllNestedWithin t.path t.nested
         by true q f = subst (λ z. PointsWithin z.path z.names × AllNestedWithin z.path z.nested) (some_inj q) g.0
         by false q f = f q
 
@@ -306,14 +331,16 @@ module _ (tables : List Table) (inside : TablesWithin tables) where
       by true q f = subst (λ y. DeclWithin path y.decl) (some_inj q) g.0
       by false q f = f q
 
-  here_within : (path whole : List PathStep) (at : ℕ) (n : List ℕ) (outer : Seen) → Within path whole → SeenWithin whole outer → SeenWithin whole (declared_or outer (here tables path at n))
+  here_within : (path whole : List PathStep) (at : ℕ) (n : List ℕ) (outer : Seen) → Within path whole → SeenWithin whole outer →
+      SeenWithin whole (declared_or outer (here tables path at n))
   here_within path whole at n outer w g = by (table_at tables path) refl
     where
       seen_by : (e : Entry) (x : Bool) → DeclWithin whole e.decl → SeenWithin whole (cond x (see.Is e.decl) see.NotYet)
       seen_by e true h = h
       seen_by e false h = tt
 
-      entry : (t : Table) (o : Option Entry) → table_at tables path ≡ Some t → lookup (bytes_eq n) t.names ≡ o → SeenWithin whole (declared_or outer (option_map (seen_entry at) o))
+      entry : (t : Table) (o : Option Entry) → table_at tables path ≡ Some t → lookup (bytes_eq n) t.names ≡ o →
+          SeenWithin whole (declared_or outer (option_map (seen_entry at) o))
       entry t None p e = g
       entry t (Some x) p e = seen_by x (nat_lt x.last at) (decl_wider path whole w x.decl (lookup_within path n t.names x (table_within tables path t inside p).0 e))
 
@@ -321,10 +348,12 @@ module _ (tables : List Table) (inside : TablesWithin tables) where
       by None p = g
       by (Some t) p = entry t (lookup (bytes_eq n) t.names) p refl
 
-  from_within : (outer : Seen) (path inward whole : List PathStep) (at : ℕ) (n : List ℕ) → whole ≡ path ++ inward → SeenWithin whole outer → SeenWithin whole (seen_from tables outer path inward at n)
+  from_within : (outer : Seen) (path inward whole : List PathStep) (at : ℕ) (n : List ℕ) → whole ≡ path ++ inward → SeenWithin whole outer →
+      SeenWithin whole (seen_from tables outer path inward at n)
   from_within outer path [] whole at n e g = here_within path whole at n outer ([], e) g
   from_within outer path (s ∷ inward) whole at n e g =
-      from_within (declared_or outer (here tables path (semicolon_of (nested_of_table tables path s)) n)) (path ++ s ∷ []) inward whole at n (e ∙ sym (append_assoc path (s ∷ []) inward))
+      from_within (declared_or outer (here tables path (semicolon_of (nested_of_table tables path s)) n)) (path ++ s ∷ []) inward whole at n (e
+      ∙ sym (append_assoc path (s ∷ []) inward))
       (here_within path whole (semicolon_of (nested_of_table tables path s)) n outer (s ∷ inward, e) g)
 
   around_within : (path : List PathStep) (r : Option Required) → SeenWithin path (around_program r)
@@ -335,11 +364,13 @@ module _ (tables : List Table) (inside : TablesWithin tables) where
   seen_within path n o = from_within (around_program (required_name n)) [] path path o n refl (around_within path (required_name n))
 
   -- the heading that the enclosing block has
-  nested_found : (path : List PathStep) (xs : List Nested) (s : PathStep) (x : Nested) → AllNestedWithin path xs → find (λ y. same_step s y.step) xs ≡ Some x → HeadingWithin path x.heading
+  nested_found : (path : List PathStep) (xs : List Nested) (s : PathStep) (x : Nested) → AllNestedWithin path xs → find (λ y. same_step s y.step) xs ≡ Some x →
+      HeadingWithin path x.heading
   nested_found path [] s x g e = none_some e
   nested_found path (y ∷ xs) s x g e = by (same_step s y.step) e (nested_found path xs s x g.1)
     where
-      by : (t : Bool) → cond t (Some y) (find (λ z. same_step s z.step) xs) ≡ Some x → (find (λ z. same_step s z.step) xs ≡ Some x → HeadingWithin path x.heading) → HeadingWithin path x.heading
+      by : (t : Bool) → cond t (Some y) (find (λ z. same_step s z.step) xs) ≡ Some x → (find (λ z. same_step s z.step) xs ≡ Some x → HeadingWithin path x.heading) →
+          HeadingWithin path x.heading
       by true q f = subst (λ z. HeadingWithin path z.heading) (some_inj q) g.0
       by false q f = f q
 
@@ -369,7 +400,8 @@ table_here : (tables : List Table) (t : Table) (more : List Table) → table_at 
 table_here [] t more e = ap (λ x. cond x (Some t) (find (λ y. same_path t.path y.path) more)) (same_path_refl t.path)
 table_here (x ∷ tables) t more e = by (same_path t.path x.path) e (table_here tables t more)
   where
-    by : (y : Bool) → cond y (Some x) (table_at tables t.path) ≡ None → (table_at tables t.path ≡ None → table_at (tables ++ t ∷ more) t.path ≡ Some t) → cond y (Some x) (table_at (tables ++ t ∷ more) t.path) ≡ Some t
+    by : (y : Bool) → cond y (Some x) (table_at tables t.path) ≡ None → (table_at tables t.path ≡ None → table_at (tables ++ t ∷ more) t.path ≡ Some t) →
+        cond y (Some x) (table_at (tables ++ t ∷ more) t.path) ≡ Some t
     by true q f = some_none q
     by false q f = f q
 
@@ -380,16 +412,20 @@ table_same tables more path h = front tables h.1 ∙ sym h.1
     front [] e = none_some e
     front (x ∷ ts) e = by (same_path path x.path) e (front ts)
       where
-        by : (y : Bool) → cond y (Some x) (table_at ts path) ≡ Some h.0 → (table_at ts path ≡ Some h.0 → table_at (ts ++ more) path ≡ Some h.0) → cond y (Some x) (table_at (ts ++ more) path) ≡ Some h.0
+        by : (y : Bool) → cond y (Some x) (table_at ts path) ≡ Some h.0 → (table_at ts path ≡ Some h.0 → table_at (ts ++ more) path ≡ Some h.0) →
+            cond y (Some x) (table_at (ts ++ more) path) ≡ Some h.0
         by true q f = q
         by false q f = f q
 
-shape_same : (tables more : List Table) (path p : List PathStep) (at : ℕ) → Around tables path → Within p path → same_path p path ≡ false → (answers_of (tables ++ more)).shape (type.Own p at) ≡ (answers_of tables).shape (type.Own p at)
+shape_same : (tables more : List Table) (path p : List PathStep) (at : ℕ) → Around tables path → Within p path → same_path p path ≡ false →
+    (answers_of (tables ++ more)).shape (type.Own p at) ≡ (answers_of tables).shape (type.Own p at)
 shape_same tables more path p at around w e = by w.0 w.1
   where
     by : (r : List PathStep) → path ≡ p ++ r → (answers_of (tables ++ more)).shape (type.Own p at) ≡ (answers_of tables).shape (type.Own p at)
     by [] q = true_false (sym (same_path_refl p) ∙ ap (same_path p) (sym (append-nil p)) ∙ ap (same_path p) (sym q) ∙ e)
-    by (s ∷ r) q = ap (λ t. unwrap_or (or_else None (option_and_then (λ x. Rattle.mp_tables.specs.Seen.shape_in x.shapes at) t)) (shape.Ptr None)) (table_same tables more p (around_has tables [] p s r (subst (AroundFrom tables []) q around)))
+    by (s ∷ r) q =
+        ap (λ t. unwrap_or (or_else None (option_and_then (λ x. Rattle.mp_tables.specs.Seen.shape_in x.shapes at) t)) (shape.Ptr None))
+        (table_same tables more p (around_has tables [] p s r (subst (AroundFrom tables []) q around)))
 
 module _ (tables : List Table) (inside : TablesWithin tables) (path : List PathStep) (own : PlainBlock) (around : Around tables path) (free : table_at tables path ≡ None) where
   abbrev here_answers : Answers
@@ -408,8 +444,11 @@ module _ (tables : List Table) (inside : TablesWithin tables) (path : List PathS
   names_here = own_points here_answers here_answers path no_change own own_heading_here (heading_within tables inside path) (name_at path)
 
   -- by the tables before the block
-  kept_here : Declares here_answers here_answers path no_change own own_heading_here (heading_within tables inside path) (name_at path) (λ m o e. refl) (seen_within tables inside path)
-  kept_here = declarations_same here_answers here_answers path no_change own own_heading_here (heading_within tables inside path) (name_at path) (λ m o e. refl) (seen_within tables inside path)
+  kept_here : Declares here_answers here_answers path no_change own own_heading_here (heading_within tables inside path) (name_at path) (λ m o e. refl)
+      (seen_within tables inside path)
+  kept_here =
+      declarations_same here_answers here_answers path no_change own own_heading_here (heading_within tables inside path) (name_at path) (λ m o e. refl)
+      (seen_within tables inside path)
 
   pub own_within : PointsWithin own_table.path own_table.names × AllNestedWithin own_table.path own_table.nested
   own_within = (kept_here.1.points, kept_here.1.nested)
@@ -425,7 +464,8 @@ module _ (tables : List Table) (inside : TablesWithin tables) (path : List PathS
     abbrev later_answers : Answers
     later_answers = answers_of (tables ++ own_table ∷ more)
 
-    names_agree : (m : List ℕ) (o : ℕ) → lookup (bytes_eq m) names_here ≡ None → later_answers.name m (record { path = path; ordinal = o }) ≡ here_answers.name m (record { path = path; ordinal = o })
+    names_agree : (m : List ℕ) (o : ℕ) → lookup (bytes_eq m) names_here ≡ None →
+        later_answers.name m (record { path = path; ordinal = o }) ≡ here_answers.name m (record { path = path; ordinal = o })
     names_agree m o e =
         outer_names_stay tables (own_table ∷ more) m (record { path = path; ordinal = o }) around free
         (subst (Silent m) (sym (table_here tables own_table more free)) (silent_by (lookup (bytes_eq m) own_table.names) (lookup (bytes_eq m) names_here) (kept_here.1.keys m) e))
@@ -433,12 +473,17 @@ module _ (tables : List Table) (inside : TablesWithin tables) (path : List PathS
     later_same : (p : List PathStep) (at : ℕ) → Within p path → same_path p path ≡ false → later_answers.shape (type.Own p at) ≡ here_answers.shape (type.Own p at)
     later_same p at w e = shape_same tables (own_table ∷ more) path p at around w e
 
-    declared_later : ((declarations (record { path = path; own = own; heading = own_heading_here }) (name_at path) nothing_known).run later_answers ≡ (declarations (record { path = path; own = own; heading = own_heading_here }) (name_at path) nothing_known).run here_answers)
-    declared_later = (declarations_same here_answers later_answers path later_same own own_heading_here (heading_within tables inside path) (name_at path) names_agree (seen_within tables inside path)).0
+    declared_later :
+        ((declarations (record { path = path; own = own; heading = own_heading_here }) (name_at path) nothing_known).run later_answers ≡
+        (declarations (record { path = path; own = own; heading = own_heading_here }) (name_at path) nothing_known).run here_answers)
+    declared_later =
+        (declarations_same here_answers later_answers path later_same own own_heading_here (heading_within tables inside path) (name_at path) names_agree
+        (seen_within tables inside path)).0
 
     pub elaborated_later : (elaborate path own).run later_answers ≡ (elaborate path own).run here_answers
     elaborated_later =
-        ap (λ h. elaborated path own ((declarations (record { path = path; own = own; heading = h }) (name_at path) nothing_known).run later_answers).1) (headings_stay tables (own_table ∷ more) path around)
+        ap (λ h. elaborated path own ((declarations (record { path = path; own = own; heading = h }) (name_at path) nothing_known).run later_answers).1)
+        (headings_stay tables (own_table ∷ more) path around)
         ∙ ap (λ p. elaborated path own p.1) declared_later
 
 -- ---- all blocks
@@ -462,7 +507,8 @@ abbrev FreeAll : List Table → List PlacedBlock → Type 0
 FreeAll tables [] = Unit {0}
 FreeAll tables (b ∷ bs) = (table_at tables b.path ≡ None) × FreeAll (tables ++ table_after tables b ∷ []) bs
 
-stable_from : (whole tables : List Table) (bs : List PlacedBlock) → whole ≡ tables_from tables bs → TablesWithin tables → AroundAll tables bs → FreeAll tables bs → AllByRecursion (λ b. table_at whole b.path ≡ Some (table_after whole b)) bs
+stable_from : (whole tables : List Table) (bs : List PlacedBlock) → whole ≡ tables_from tables bs → TablesWithin tables → AroundAll tables bs → FreeAll tables bs →
+    AllByRecursion (λ b. table_at whole b.path ≡ Some (table_after whole b)) bs
 stable_from whole tables [] e g a f = tt
 stable_from whole tables (b ∷ bs) e g a f =
     let t : Table = table_after tables b in
@@ -487,15 +533,18 @@ free_append : (tables : List Table) (t : Table) (path : List PathStep) → table
 free_append [] t path e f = ap (λ x. cond x (Some t) None) f
 free_append (x ∷ tables) t path e f = by (same_path path x.path) e (free_append tables t path)
   where
-    by : (y : Bool) → cond y (Some x) (table_at tables path) ≡ None → (table_at tables path ≡ None → same_path path t.path ≡ false → table_at (tables ++ t ∷ []) path ≡ None) → cond y (Some x) (table_at (tables ++ t ∷ []) path) ≡ None
+    by : (y : Bool) → cond y (Some x) (table_at tables path) ≡ None → (table_at tables path ≡ None → same_path path t.path ≡ false → table_at (tables ++ t ∷ []) path ≡ None) →
+        cond y (Some x) (table_at (tables ++ t ∷ []) path) ≡ None
     by true q g = some_none q
     by false q g = g q f
 
-all_free : (tables : List Table) (t : Table) (bs : List PlacedBlock) → AllByRecursion (λ c. table_at tables c.path ≡ None) bs → AllByRecursion (λ c. same_path t.path c.path ≡ false) bs → AllByRecursion (λ c. table_at (tables ++ t ∷ []) c.path ≡ None) bs
+all_free : (tables : List Table) (t : Table) (bs : List PlacedBlock) → AllByRecursion (λ c. table_at tables c.path ≡ None) bs →
+    AllByRecursion (λ c. same_path t.path c.path ≡ false) bs → AllByRecursion (λ c. table_at (tables ++ t ∷ []) c.path ≡ None) bs
 all_free tables t [] g h = tt
 all_free tables t (c ∷ bs) g h = (free_append tables t c.path g.0 (same_path_swap t.path c.path h.0), all_free tables t bs g.1 h.1)
 
-free_from : (tables : List Table) (bs : List PlacedBlock) → AllByRecursion (λ c. table_at tables c.path ≡ None) bs → IsDistinct (λ x y. same_path x.path y.path) bs → FreeAll tables bs
+free_from : (tables : List Table) (bs : List PlacedBlock) → AllByRecursion (λ c. table_at tables c.path ≡ None) bs → IsDistinct (λ x y. same_path x.path y.path) bs →
+    FreeAll tables bs
 unfolding IsDistinct
 free_from tables [] g d = tt
 free_from tables (b ∷ bs) g d = (g.0, free_from (tables ++ table_after tables b ∷ []) bs (all_free tables (table_after tables b) bs g.1 d.0) d.1)
@@ -520,7 +569,8 @@ has_last tables t = by (table_at tables t.path) refl
     by None e = (t, table_here tables t [] e)
     by (Some x) e = has_more tables (t ∷ []) t.path (x, e)
 
-around_step : (tables : List Table) (before inward : List PathStep) (s : PathStep) → AroundFrom tables before inward → HasTable tables (before ++ inward) → AroundFrom tables before (inward ++ s ∷ [])
+around_step : (tables : List Table) (before inward : List PathStep) (s : PathStep) → AroundFrom tables before inward → HasTable tables (before ++ inward) →
+    AroundFrom tables before (inward ++ s ∷ [])
 around_step tables before [] s g h = (subst (HasTable tables) (append-nil before) h, tt)
 around_step tables before (x ∷ inward) s g h = (g.0, around_step tables (before ++ x ∷ []) inward s g.1 (subst (HasTable tables) (sym (append_assoc before (x ∷ []) inward)) h))
 
@@ -535,7 +585,8 @@ mutual
       let t : Table = table_after tables b in
       (g, around_inside path start (nested_in own) inside (tables ++ t ∷ []) (around_more tables (t ∷ []) [] path g) (has_last tables t))
 
-  around_inside : (path : List PathStep) (start : ℕ) (nested : List NestedBlock) (trees : PlainTrees) (tables : List Table) → Around tables path → HasTable tables path → AroundAll tables (blocks_inside path start nested trees)
+  around_inside : (path : List PathStep) (start : ℕ) (nested : List NestedBlock) (trees : PlainTrees) (tables : List Table) → Around tables path → HasTable tables path →
+      AroundAll tables (blocks_inside path start nested trees)
   around_inside path start nested NoTrees tables g h = tt
   around_inside path start [] (Beside tree more) tables g h = tt
   around_inside path start (n ∷ nested) (Beside tree more) tables g h =
@@ -555,7 +606,8 @@ tables_are_stable program =
 -- where R holds of each block, Q holds of each table
 all_tables :
     (Q : Table → Type 0) (R : PlacedBlock → Type 0) → ((b : PlacedBlock) (t : Table) → R b → t.path ≡ b.path → AllPoints (OwnDecl b.path b.own) t.names → Q t) →
-    (tables : List Table) (bs : List PlacedBlock) → AllByRecursion Q tables → AllByRecursion R bs → TablesWithin tables → AroundAll tables bs → FreeAll tables bs → AllByRecursion Q (tables_from tables bs)
+    (tables : List Table) (bs : List PlacedBlock) → AllByRecursion Q tables → AllByRecursion R bs → TablesWithin tables → AroundAll tables bs → FreeAll tables bs →
+    AllByRecursion Q (tables_from tables bs)
 all_tables Q R f tables [] q r g a h = q
 all_tables Q R f tables (b ∷ bs) q r g a h =
     all_tables Q R f (tables ++ table_after tables b ∷ []) bs
@@ -567,7 +619,8 @@ all_tables Q R f tables (b ∷ bs) q r g a h =
     append (t ∷ ts) q h = (q.0, append ts q.1 h)
 
 pub each_table :
-    (program : PlainTree) (Q : Table → Type 0) (R : PlacedBlock → Type 0) → ((b : PlacedBlock) (t : Table) → R b → t.path ≡ b.path → AllPoints (OwnDecl b.path b.own) t.names → Q t) →
+    (program : PlainTree) (Q : Table → Type 0) (R : PlacedBlock → Type 0) →
+    ((b : PlacedBlock) (t : Table) → R b → t.path ≡ b.path → AllPoints (OwnDecl b.path b.own) t.names → Q t) →
     AllByRecursion R (blocks program) → AllByRecursion Q (tables_of program)
 each_table program Q R f r =
     all_tables Q R f [] (blocks program) tt r tt (around_from [] 0 program [] tt) (free_from [] (blocks program) (none_yet (blocks program)) (paths_differ program))
@@ -575,13 +628,15 @@ each_table program Q R f r =
 -- what holds of each declaration of each table holds of the one that is found
 pub found_in : (D : List PathStep → Decl → Type 0) (tables : List Table) (path : List PathStep) (t : Table) (n : List ℕ) (e : Entry) →
     AllByRecursion (λ x. AllPoints (D x.path) x.names) tables → table_at tables path ≡ Some t → lookup (bytes_eq n) t.names ≡ Some e → D path e.decl
-found_in D tables path t n e g p q = subst (λ y. D y e.decl) (sym (same_path-eq path t.path (found_test (λ x. same_path path x.path) tables t p))) (entry t.names (table tables g p) q)
+found_in D tables path t n e g p q =
+    subst (λ y. D y e.decl) (sym (same_path-eq path t.path (found_test (λ x. same_path path x.path) tables t p))) (entry t.names (table tables g p) q)
   where
     table : (ts : List Table) → AllByRecursion (λ x. AllPoints (D x.path) x.names) ts → find (λ x. same_path path x.path) ts ≡ Some t → AllPoints (D t.path) t.names
     table [] g p = none_some p
     table (x ∷ ts) g p = by (same_path path x.path) p (table ts g.1)
       where
-        by : (y : Bool) → cond y (Some x) (find (λ z. same_path path z.path) ts) ≡ Some t → (find (λ z. same_path path z.path) ts ≡ Some t → AllPoints (D t.path) t.names) → AllPoints (D t.path) t.names
+        by : (y : Bool) → cond y (Some x) (find (λ z. same_path path z.path) ts) ≡ Some t → (find (λ z. same_path path z.path) ts ≡ Some t → AllPoints (D t.path) t.names) →
+            AllPoints (D t.path) t.names
         by true k f = subst (λ z. AllPoints (D z.path) z.names) (some_inj k) g.0
         by false k f = f k
 

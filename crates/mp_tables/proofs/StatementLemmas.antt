@@ -106,7 +106,8 @@ module _ (tables : List Table) (complete : Complete tables) (path : List PathSte
   expression_here : (r : Region) (x : PlainExpr) → Clean (answers_of tables) (expression r x) (λ v. (i : Inner) → Fits (at_place i) r → ShortExpr x → GoodExpr (at_place i) v)
   expression_here r x = clean_forall nowhere (λ i. expression_clean (at_place i) complete r x)
 
-  condition_clean : (p : Place) (x : PlainExpr) → Clean (answers_of tables) (condition p x) (λ n. (i : Inner) → Fits (at_place i) p.region → ShortExpr x → OrdinalExpr (at_place i) n)
+  condition_clean : (p : Place) (x : PlainExpr) →
+      Clean (answers_of tables) (condition p x) (λ n. (i : Inner) → Fits (at_place i) p.region → ShortExpr x → OrdinalExpr (at_place i) n)
   condition_clean p x =
       expression_here p.region x
       then λ v. clean_report_if (not (boolean_fits v.typed)) 332 (first_of_expression x)
@@ -135,8 +136,10 @@ module _ (tables : List Table) (complete : Complete tables) (path : List PathSte
   not_set code at = clean_report {P = λ u. ⊥} code at then λ u. clean_pure not_settable (λ n. absurd n)
 
   result_by : (r : Region) (x : Identifier) (f : Routine) (offset : ℕ) (q : List PathStep) (b : Bool) → in_block r f.block ≡ b →
-      Clean (answers_of tables) (cond b (typed_if f.heading.result >>= (λ t. pure (settable (Some (result_access x.name (unwrap_or f.block []) offset t))))) (report 348 x.at >> pure not_settable))
-      (λ s. (i : Inner) → Fits (at_place i) r → DeclaredIn (at_place i) x.name q (decl.Func q f offset) → CompleteRoutine tables q true f → Standing tables f.heading.result → IsSettable i s)
+      Clean (answers_of tables)
+      (cond b (typed_if f.heading.result >>= (λ t. pure (settable (Some (result_access x.name (unwrap_or f.block []) offset t))))) (report 348 x.at >> pure not_settable))
+      (λ s. (i : Inner) → Fits (at_place i) r → DeclaredIn (at_place i) x.name q (decl.Func q f offset) → CompleteRoutine tables q true f → Standing tables f.heading.result →
+      IsSettable i s)
   result_by r x f offset q false e = not_set 348 x.at
   result_by r x f offset q true e =
       typed_if_clean (at_place nowhere) f.heading.result
@@ -156,15 +159,19 @@ module _ (tables : List Table) (complete : Complete tables) (path : List PathSte
         declared = subst (λ y. declared_at (at_place i) y x.name ≡ Some (decl.Func (take y path) f offset)) (sym outer) (d.1 ∙ ap (λ y. Some (decl.Func y f offset)) (sym d.0));
         block = c.block ∙ ap Some (sym around);
       } in
-      let is' : IsResult (at_place i) (located x.name (unwrap_or f.block []) offset) k.0 = subst (λ y. IsResult (at_place i) (located x.name (unwrap_or y []) offset) k.0) (sym c.block) is in
+      let is' : IsResult (at_place i) (located x.name (unwrap_or f.block []) offset) k.0 =
+      subst (λ y. IsResult (at_place i) (located x.name (unwrap_or y []) offset) k.0) (sym c.block) is in
       (result_access x.name (unwrap_or f.block []) offset t, refl, refl, (k.0, k.2, (k.0, is', refl), tt)))
 
-  other_param : (r : Region) (x : Identifier) (q : List PathStep) (p : _) (k : FormalKind) → Clean (answers_of tables) (other_target r x (Declared (decl.Param q (record p { kind = k })))) (λ s. (i : Inner) → IsSettable i s)
+  other_param : (r : Region) (x : Identifier) (q : List PathStep) (p : _) (k : FormalKind) →
+      Clean (answers_of tables) (other_target r x (Declared (decl.Param q (record p { kind = k })))) (λ s. (i : Inner) → IsSettable i s)
   other_param r x q p formal.Function = not_set 348 x.at
   other_param r x q p k = not_set 305 x.at
 
-  other_target_clean : (r : Region) (x : Identifier) (u : Use) → Clean (answers_of tables) (other_target r x u) (λ s. (i : Inner) → Fits (at_place i) r → GoodUse (at_place i) x.name u → IsSettable i s)
-  other_target_clean r x (Declared (decl.Func q f offset)) = result_by r x f offset q (in_block r f.block) refl so λ s h i fit g. h i fit g.0 g.1 (result_standing tables f.heading.result g.2)
+  other_target_clean : (r : Region) (x : Identifier) (u : Use) →
+      Clean (answers_of tables) (other_target r x u) (λ s. (i : Inner) → Fits (at_place i) r → GoodUse (at_place i) x.name u → IsSettable i s)
+  other_target_clean r x (Declared (decl.Func q f offset)) = result_by r x f offset q (in_block r f.block) refl
+      so λ s h i fit g. h i fit g.0 g.1 (result_standing tables f.heading.result g.2)
   other_target_clean r x (Declared (decl.Param q p)) = other_param r x q p p.kind so λ s h i fit g. h i
   other_target_clean r x (Declared (decl.Required n)) = not_set (cond (is_required_function n) 348 305) x.at
   other_target_clean r x u = not_set 305 x.at
@@ -173,28 +180,34 @@ module _ (tables : List Table) (complete : Complete tables) (path : List PathSte
   threatened_good a true i e g = true_false e
   threatened_good a false i e g = (a, refl, refl, g)
 
-  name_target_by_clean : (r : Region) (x : Identifier) (u : Use) (o : Option Accessed) → Clean (answers_of tables) (name_target_by r x u o) (λ s. (i : Inner) → Fits (at_place i) r → GoodUse (at_place i) x.name u → GoodAccessIf (at_place i) u o → IsSettable i s)
+  name_target_by_clean : (r : Region) (x : Identifier) (u : Use) (o : Option Accessed) →
+      Clean (answers_of tables) (name_target_by r x u o) (λ s. (i : Inner) → Fits (at_place i) r → GoodUse (at_place i) x.name u → GoodAccessIf (at_place i) u o → IsSettable i s)
   name_target_by_clean r x u (Some a) = threat_clean r x.at a.entire then λ b. clean_pure (unless_threatened a b) (λ e i fit g h. threatened_good a b i e h.0)
   name_target_by_clean r x u None = other_target_clean r x u so λ s h i fit g k. h i fit g
 
-  name_target_clean : (r : Region) (x : Identifier) (u : Option Use) → Clean (answers_of tables) (name_target r x u) (λ s. (i : Inner) → Fits (at_place i) r → GoodUseIf (at_place i) x.name u → IsSettable i s)
+  name_target_clean : (r : Region) (x : Identifier) (u : Option Use) →
+      Clean (answers_of tables) (name_target r x u) (λ s. (i : Inner) → Fits (at_place i) r → GoodUseIf (at_place i) x.name u → IsSettable i s)
   name_target_clean r x None = clean_pure not_settable (λ i fit g. absurd g)
   name_target_clean r x (Some u) = variable_here x.name u then λ o. name_target_by_clean r x u o so λ s h k i fit g. h i fit g (k i g)
 
-  accessed_one : (i : Inner) (r : Region) (a : PlainAccess) → Clean (answers_of tables) (accessed r a) (λ v. Fits (at_place i) r → ShortSelectors a.selectors → AccessedIf (at_place i) v)
+  accessed_one : (i : Inner) (r : Region) (a : PlainAccess) →
+      Clean (answers_of tables) (accessed r a) (λ v. Fits (at_place i) r → ShortSelectors a.selectors → AccessedIf (at_place i) v)
   accessed_one i r a =
       variable_found (at_place i) complete r a.name
-      then λ v. start_clean (at_place i) complete r (Fits (at_place i) r × ShortSelectors a.selectors) a.selectors v (λ t g tag. selected_clean (at_place i) complete r a.selectors t g tag)
+      then λ v. start_clean (at_place i) complete r (Fits (at_place i) r
+      × ShortSelectors a.selectors) a.selectors v (λ t g tag. selected_clean (at_place i) complete r a.selectors t g tag)
       then λ s. clean_pure (selected_variable v s) (λ f h p q. f (p, q) (h p))
 
-  accessed_clean : (r : Region) (a : PlainAccess) → Clean (answers_of tables) (accessed r a) (λ v. (i : Inner) → Fits (at_place i) r → ShortSelectors a.selectors → AccessedIf (at_place i) v)
+  accessed_clean : (r : Region) (a : PlainAccess) →
+      Clean (answers_of tables) (accessed r a) (λ v. (i : Inner) → Fits (at_place i) r → ShortSelectors a.selectors → AccessedIf (at_place i) v)
   accessed_clean r a = clean_forall nowhere (λ i. accessed_one i r a)
 
   settable_good : (i : Inner) (v : Option Accessed) → AccessedIf (at_place i) v → IsSettable i (settable v)
   settable_good i None g = absurd g
   settable_good i (Some a) g = (a, refl, refl, g)
 
-  target_by : (r : Region) (x : Identifier) (steps : PlainSelectors) → Clean (answers_of tables) (target r (record { name = x; selectors = steps })) (λ s. (i : Inner) → Fits (at_place i) r → ShortSelectors steps → IsSettable i s)
+  target_by : (r : Region) (x : Identifier) (steps : PlainSelectors) →
+      Clean (answers_of tables) (target r (record { name = x; selectors = steps })) (λ s. (i : Inner) → Fits (at_place i) r → ShortSelectors steps → IsSettable i s)
   target_by r x NoSelectors = use_here r x then λ u. name_target_clean r x u so λ s f h i fit q. f i fit (h i fit)
   target_by r x steps = accessed_clean r (record { name = x; selectors = steps }) then λ v. clean_pure (settable v) (λ h i fit q. settable_good i v (h i fit q))
 
@@ -202,21 +215,35 @@ module _ (tables : List Table) (complete : Complete tables) (path : List PathSte
   assignment_clean at None v = clean_pure tt (λ s e. none_some e)
   assignment_clean at (Some t) v = by (holds_file t.shape)
     where
-      by : (b : Bool) → Clean (answers_of tables) (cond b (report 320 at) (report_if (not (unless_missing assignable v (Some t))) 334 at)) (λ u. (s : Typed) → Some t ≡ Some s → unless_missing assignable v (Some s) ≡ true)
+      by : (b : Bool) →
+          Clean (answers_of tables) (cond b (report 320 at) (report_if (not (unless_missing assignable v (Some t))) 334 at)) (λ u. (s : Typed) → Some t ≡ Some s →
+          unless_missing assignable v (Some s) ≡ true)
       by true = clean_report 320 at
-      by false = clean_report_if (not (unless_missing assignable v (Some t))) 334 at so λ u e s p. subst (λ y. unless_missing assignable v y ≡ true) p (holds (unless_missing assignable v (Some t)) e)
+      by false = clean_report_if (not (unless_missing assignable v (Some t))) 334 at
+          so λ u e s p. subst (λ y. unless_missing assignable v y ≡ true) p (holds (unless_missing assignable v (Some t)) e)
 
-  assign_good : (i : Inner) (start : ℕ) (s : Settable) (v : Option Typed) (node : PlainTypedExpr) → IsSettable i s → ((t : Typed) → s.typed ≡ Some t → unless_missing assignable v (Some t) ≡ true) → GoodValue (at_place i) v node → CheckedStatement (at_place i) (assign_node start s node)
+  assign_good : (i : Inner) (start : ℕ) (s : Settable) (v : Option Typed) (node : PlainTypedExpr) → IsSettable i s →
+      ((t : Typed) → s.typed ≡ Some t → unless_missing assignable v (Some t) ≡ true) → GoodValue (at_place i) v node → CheckedStatement (at_place i) (assign_node start s node)
   assign_good i start s v node k f g =
       let a = k.0 in
       let id = k.3.0 in
       let t : Typed = record { id = Some id; shape = k.3.1.0 } in
       let x = fits_value (at_place i) complete v node t (f t (k.2 ∙ k.3.1.1)) g k.3.1.2 in
-      let made : CheckedStatement (at_place i) (typed_tree.Assign start (record { access = a.access; check = check_if a.typed; tagging = a.tagging }) node) =
-      (x.0, record { of = id; leads = k.3.2; sorted = (k.3.1.0, k.3.1.2, sym x.1); tested = (k.3.1.0, k.3.1.2, sym (ap check_if k.3.1.1)); tagged = tag_field tables k.3.2.0 a.tagging a.access.selectors k.3.3 }, fits_holds (at_place i) v node id k.3.1.0 (f t (k.2 ∙ k.3.1.1)) g k.3.1.2) in
+      let made : CheckedStatement (at_place i) (typed_tree.Assign start (record { access = a.access; check = check_if a.typed; tagging = a.tagging }) node) = (
+        x.0,
+        record {
+          of = id;
+          leads = k.3.2;
+          sorted = (k.3.1.0, k.3.1.2, sym x.1);
+          tested = (k.3.1.0, k.3.1.2, sym (ap check_if k.3.1.1));
+          tagged = tag_field tables k.3.2.0 a.tagging a.access.selectors k.3.3;
+        },
+        fits_holds (at_place i) v node id k.3.1.0 (f t (k.2 ∙ k.3.1.1)) g k.3.1.2,
+      ) in
       subst (λ y. CheckedStatement (at_place i) (assign_node start (record { typed = s.typed; access = y }) node)) (sym k.1) made
 
-  assign_clean : (p : Place) (start : ℕ) (a : PlainAccess) (at : ℕ) (x : PlainExpr) → Clean (answers_of tables) (assign p start a at x) (λ t. (i : Inner) → PlaceFits tables path i p → ShortSelectors a.selectors × ShortExpr x → CheckedStatement (at_place i) t)
+  assign_clean : (p : Place) (start : ℕ) (a : PlainAccess) (at : ℕ) (x : PlainExpr) →
+      Clean (answers_of tables) (assign p start a at x) (λ t. (i : Inner) → PlaceFits tables path i p → ShortSelectors a.selectors × ShortExpr x → CheckedStatement (at_place i) t)
   assign_clean p start a at x =
       target_by p.region a.name a.selectors
       then λ s. expression_here p.region x
@@ -232,39 +259,52 @@ module _ (tables : List Table) (complete : Complete tables) (path : List PathSte
   no_procedure_clean : {P : PlainTypedStatement → Type 0} (start at : ℕ) (js : List Judged) → Clean (answers_of tables) (no_procedure start at js) P
   no_procedure_clean start at js = clean_refused {P = λ u. ⊥} 305 at (no_widths_clean js) then λ u. clean_pure (typed_tree.Wrong start) (λ n. absurd n)
 
-  required_by : (i : Inner) (start at : ℕ) (js : List Judged) (o : Option Called) → CleanIf (at_place i) complete o (λ c. GoodActuals (at_place i) [] js → CalledIf (at_place i) c) → Clean (answers_of tables) (required_statement start at js o) (λ t. GoodActuals (at_place i) [] js → CheckedStatement (at_place i) t)
+  required_by : (i : Inner) (start at : ℕ) (js : List Judged) (o : Option Called) →
+      CleanIf (at_place i) complete o (λ c. GoodActuals (at_place i) [] js → CalledIf (at_place i) c) →
+      Clean (answers_of tables) (required_statement start at js o) (λ t. GoodActuals (at_place i) [] js → CheckedStatement (at_place i) t)
   required_by i start at js None c = no_procedure_clean start at js
   required_by i start at js (Some m) c = c then λ o. clean_pure (required_node start o) (λ f g. required_good i start o (f g))
 
-  call_good : (i : Inner) (start : ℕ) (g : Given) (o : Option PlainTypedActuals) → g.kind ≡ formal.Procedure → GoodGiven (at_place i) g → ActualsIf (at_place i) complete g.heading o → CheckedStatement (at_place i) (call_node start g o)
+  call_good : (i : Inner) (start : ℕ) (g : Given) (o : Option PlainTypedActuals) → g.kind ≡ formal.Procedure → GoodGiven (at_place i) g →
+      ActualsIf (at_place i) complete g.heading o → CheckedStatement (at_place i) (call_node start g o)
   call_good i start g None k h a = absurd a
   call_good i start g (Some a) k h s =
       subst (λ y. CheckedStatement (at_place i) (call_node start (record g { callee = y }) (Some a))) (sym h.is)
       (g.heading, subst (λ y. CalleeHas (at_place i) h.callee y g.heading) k h.has, s)
 
-  procedure_by : (i : Inner) (r : Region) (start at : ℕ) (js : List Judged) (g : Given) (k : FormalKind) → Clean (answers_of tables) (procedure_statement r start at js (Some (record g { kind = k }))) (λ t. GoodGiven (at_place i) (record g { kind = k }) → GoodActuals (at_place i) (procedural_in formal.Procedure (Some (record g { kind = k })) (length js)) js → CheckedStatement (at_place i) t)
+  procedure_by : (i : Inner) (r : Region) (start at : ℕ) (js : List Judged) (g : Given) (k : FormalKind) →
+      Clean (answers_of tables) (procedure_statement r start at js (Some (record g { kind = k }))) (λ t. GoodGiven (at_place i) (record g { kind = k }) →
+      GoodActuals (at_place i) (procedural_in formal.Procedure (Some (record g { kind = k })) (length js)) js → CheckedStatement (at_place i) t)
   procedure_by i r start at js g formal.Procedure =
       actuals_of_clean (at_place i) complete r at g.heading js
-      then λ o. clean_pure (call_node start (record g { kind = formal.Procedure }) o) (λ f h a. call_good i start (record g { kind = formal.Procedure }) o refl h (f a h.complete.0))
+      then λ o. clean_pure (call_node start (record g { kind = formal.Procedure }) o)
+      (λ f h a. call_good i start (record g { kind = formal.Procedure }) o refl h (f a h.complete.0))
   procedure_by i r start at js g k = no_procedure_clean start at js
 
-  procedure_clean : (i : Inner) (r : Region) (start at : ℕ) (js : List Judged) (o : Option Given) → Clean (answers_of tables) (procedure_statement r start at js o) (λ t. GivenOrNot (at_place i) o → GoodActuals (at_place i) (procedural_in formal.Procedure o (length js)) js → CheckedStatement (at_place i) t)
+  procedure_clean : (i : Inner) (r : Region) (start at : ℕ) (js : List Judged) (o : Option Given) →
+      Clean (answers_of tables) (procedure_statement r start at js o) (λ t. GivenOrNot (at_place i) o →
+      GoodActuals (at_place i) (procedural_in formal.Procedure o (length js)) js → CheckedStatement (at_place i) t)
   procedure_clean i r start at js None = no_procedure_clean start at js
   procedure_clean i r start at js (Some g) = procedure_by i r start at js g g.kind
 
-  called_clean : (i : Inner) (r : Region) (start : ℕ) (x : Identifier) (js : List Judged) (u : Option Use) → Clean (answers_of tables) (called r start x js u) (λ t. GoodUseIf (at_place i) x.name u → GoodActuals (at_place i) (procedural_of formal.Procedure x u (length js)) js → CheckedStatement (at_place i) t)
+  called_clean : (i : Inner) (r : Region) (start : ℕ) (x : Identifier) (js : List Judged) (u : Option Use) →
+      Clean (answers_of tables) (called r start x js u) (λ t. GoodUseIf (at_place i) x.name u → GoodActuals (at_place i) (procedural_of formal.Procedure x u (length js)) js →
+      CheckedStatement (at_place i) t)
   called_clean i r start x js None = no_widths_clean js then λ u. clean_pure (typed_tree.Wrong start) (λ p g. absurd g)
-  called_clean i r start x js (Some (Declared (decl.Required n))) = required_by i start x.at js (required_call r x.at n js) (required_call_clean (at_place i) complete r x.at n js) so λ t f g a. f a
+  called_clean i r start x js (Some (Declared (decl.Required n))) =
+      required_by i start x.at js (required_call r x.at n js) (required_call_clean (at_place i) complete r x.at n js) so λ t f g a. f a
   called_clean i r start x js (Some u) = procedure_clean i r start x.at js (given_use x.name u) so λ t f g a. f (given_good (at_place i) x.name u g) a
 
-  call_one : (i : Inner) (p : Place) (start : ℕ) (x : Identifier) (given : PlainActuals) → Clean (answers_of tables) (call p start x given) (λ t. PlaceFits tables path i p → ShortActuals given → CheckedStatement (at_place i) t)
+  call_one : (i : Inner) (p : Place) (start : ℕ) (x : Identifier) (given : PlainActuals) →
+      Clean (answers_of tables) (call p start x given) (λ t. PlaceFits tables path i p → ShortActuals given → CheckedStatement (at_place i) t)
   call_one i p start x given =
       used_clean (at_place i) complete p.region x
       then λ u. actuals_clean (at_place i) complete p.region (procedural_of formal.Procedure x u (count given)) given
       then λ js. called_clean i p.region start x js u
       so λ t f h g fit q. let a = h fit.region q in f (g fit.region) (subst (λ n. GoodActuals (at_place i) (procedural_of formal.Procedure x u n) js) (sym a.0) a.1)
 
-  call_clean : (p : Place) (start : ℕ) (x : Identifier) (given : PlainActuals) → Clean (answers_of tables) (call p start x given) (λ t. (i : Inner) → PlaceFits tables path i p → ShortActuals given → CheckedStatement (at_place i) t)
+  call_clean : (p : Place) (start : ℕ) (x : Identifier) (given : PlainActuals) →
+      Clean (answers_of tables) (call p start x given) (λ t. (i : Inner) → PlaceFits tables path i p → ShortActuals given → CheckedStatement (at_place i) t)
   call_clean p start x given = clean_forall nowhere (λ i. call_one i p start x given)
 
   -- ---- goto statements
@@ -278,11 +318,16 @@ module _ (tables : List Table) (complete : Complete tables) (path : List PathSte
   is_outermost-eq standing.Outermost e = refl
   is_outermost-eq s e = false_true e
 
-  outer_label_clean : (label at : ℕ) (s : Seen) → Clean (answers_of tables) (outer_label at s) (λ d. (i : Inner) → OuterOnce tables path → GoodSeen (at_place i) (label_name label) s → CheckedGoto (at_place i) d label)
+  outer_label_clean : (label at : ℕ) (s : Seen) →
+      Clean (answers_of tables) (outer_label at s) (λ d. (i : Inner) → OuterOnce tables path → GoodSeen (at_place i) (label_name label) s → CheckedGoto (at_place i) d label)
   outer_label_clean label at (see.Is (decl.Label q s)) =
       lead_clean (is_outermost s) s at
       then λ u. clean_pure (length q)
-      (λ f i o g. inr (shorter q path g.0, g.1 ∙ ap (λ y. Some (decl.Label y s)) (sym g.0) ∙ ap (λ y. Some (decl.Label (take (length q) path) y)) (is_outermost-eq s (f (o (length q) (label_name label) q s g.1)))))
+      (λ f i o g. inr (
+        shorter q path g.0,
+        g.1 ∙ ap (λ y. Some (decl.Label y s)) (sym g.0)
+            ∙ ap (λ y. Some (decl.Label (take (length q) path) y)) (is_outermost-eq s (f (o (length q) (label_name label) q s g.1))),
+      ))
   outer_label_clean label at s = clean_report {P = λ u. ⊥} 306 at then λ u. clean_pure 0 (λ n. absurd n)
 
   label_by : (p : Place) (n : NumberLeaf) (b : Bool) → list_any (has_value n.value) p.own.labels ≡ b →
@@ -295,22 +340,33 @@ module _ (tables : List Table) (complete : Complete tables) (path : List PathSte
   label_by p n false e =
       clean_lift (find_name (label_name n.value) (record { path = p.region.path; ordinal = n.at }))
       then λ s. outer_label_clean n.value n.at s
-      so λ d f g i fit. f i fit.outer (subst (GoodSeen (at_place i) (label_name n.value)) (sym g) (good_seen (at_place i) complete (label_name n.value) (record { path = p.region.path; ordinal = n.at }) fit.region.path))
+      so λ d f g i fit. f i fit.outer
+      (subst (GoodSeen (at_place i) (label_name n.value)) (sym g)
+      (good_seen (at_place i) complete (label_name n.value) (record { path = p.region.path; ordinal = n.at }) fit.region.path))
 
-  goto_clean : (p : Place) (start : ℕ) (n : NumberLeaf) → Clean (answers_of tables) (goto p start n) (λ t. (i : Inner) → PlaceFits tables path i p → CheckedStatement (at_place i) t)
+  goto_clean : (p : Place) (start : ℕ) (n : NumberLeaf) →
+      Clean (answers_of tables) (goto p start n) (λ t. (i : Inner) → PlaceFits tables path i p → CheckedStatement (at_place i) t)
   goto_clean p start n = ranged then λ d. clean_pure (typed_tree.Goto start d n.value) (λ f i fit. f i fit)
     where
-      ranged : Clean (answers_of tables) (label_range n >>= (λ u. cond (list_any (has_value n.value) p.own.labels) (own_label p n) (lift (find_name (label_name n.value) (record { path = p.region.path; ordinal = n.at })) >>= outer_label n.at))) (λ d. (i : Inner) → PlaceFits tables path i p → CheckedGoto (at_place i) d n.value)
+      ranged : Clean (answers_of tables)
+          (label_range n >>=
+          (λ u. cond (list_any (has_value n.value) p.own.labels) (own_label p n)
+          (lift (find_name (label_name n.value) (record { path = p.region.path; ordinal = n.at })) >>= outer_label n.at))) (λ d. (i : Inner) → PlaceFits tables path i p →
+          CheckedGoto (at_place i) d n.value)
       ranged = clean_report_if _ 311 n.at then λ u. label_by p n (list_any (has_value n.value) p.own.labels) refl so λ d f e. f
 
-  goto_plain : (p : Place) (start : ℕ) (n : NumberLeaf) → Clean (answers_of tables) (goto p start n) (λ t. (ts : PlainTypedStatements) → outermost_labels (typed_tree.Sequence t ts) ≡ outermost_labels ts)
-  goto_plain p start n = any_bind (clean_report_if _ 311 n.at) (λ u. label_by p n (list_any (has_value n.value) p.own.labels) refl so λ d f. tt) then λ d. clean_pure (typed_tree.Goto start d n.value) (λ f ts. refl)
+  goto_plain : (p : Place) (start : ℕ) (n : NumberLeaf) →
+      Clean (answers_of tables) (goto p start n) (λ t. (ts : PlainTypedStatements) → outermost_labels (typed_tree.Sequence t ts) ≡ outermost_labels ts)
+  goto_plain p start n = any_bind (clean_report_if _ 311 n.at) (λ u. label_by p n (list_any (has_value n.value) p.own.labels) refl so λ d f. tt)
+      then λ d. clean_pure (typed_tree.Goto start d n.value) (λ f ts. refl)
 
   -- ---- case statements
 
-  index_clean : (at : ℕ) (t : Option Typed) → Clean (answers_of tables) (case_index at t) (λ u. (i : Inner) (node : PlainTypedExpr) → GoodValue (at_place i) t node → OrdinalExpr (at_place i) node)
+  index_clean : (at : ℕ) (t : Option Typed) →
+      Clean (answers_of tables) (case_index at t) (λ u. (i : Inner) (node : PlainTypedExpr) → GoodValue (at_place i) t node → OrdinalExpr (at_place i) node)
   index_clean at None = clean_pure None (λ i node g. absurd g)
-  index_clean at (Some t) = clean_report_if (not (is_some (ordinal t))) 318 at then λ u. clean_pure (host_by (ordinal t)) (λ e i node g. ordinal_value (at_place i) t node g (some_ordinal (ordinal t) t.shape (holds (is_some (ordinal t)) e)))
+  index_clean at (Some t) = clean_report_if (not (is_some (ordinal t))) 318 at
+      then λ u. clean_pure (host_by (ordinal t)) (λ e i node g. ordinal_value (at_place i) t node g (some_ordinal (ordinal t) t.shape (holds (is_some (ordinal t)) e)))
 
   signed_any : (s : Option Sign) (v : Option ConstantValue) → Clean (answers_of tables) (signed s v) Any
   signed_any None v = clean_pure v tt
@@ -334,7 +390,8 @@ module _ (tables : List Table) (complete : Complete tables) (path : List PathSte
   selecting_by_any : (host : Option TypeId) (at : ℕ) (s : Selecting) (v : Option ConstantValue) → Clean (answers_of tables) (selecting_by host at s v) Any
   selecting_by_any host at s None = clean_pure s tt
   selecting_by_any host at s (Some v) =
-      any_bind (clean_report_if (not (constant_fits host v)) 324 at) (λ u. any_bind (clean_report_if (list_any (same_constant v) s.known) 325 at) (λ u. clean_pure (record { values = s.values ++ numbers v; known = v ∷ s.known }) tt))
+      any_bind (clean_report_if (not (constant_fits host v)) 324 at)
+      (λ u. any_bind (clean_report_if (list_any (same_constant v) s.known) 325 at) (λ u. clean_pure (record { values = s.values ++ numbers v; known = v ∷ s.known }) tt))
 
   selecting_any : (r : Region) (host : Option TypeId) (cs : List Constant) (s : Selecting) → Clean (answers_of tables) (selecting (used r) host cs s) Any
   selecting_any r host [] s = clean_pure s tt
@@ -370,7 +427,9 @@ module _ (tables : List Table) (complete : Complete tables) (path : List PathSte
   ordinal_of None e = false_true e
   ordinal_of (Some b) e = (b, refl)
 
-  control_good : (i : Inner) (r : Region) (x : Identifier) (q : List PathStep) (v : Variable) (a : Accessed) (threatened : Bool) → threatened ≡ false → ordinal_if a.typed ≡ true → same_path q r.path ≡ true → Fits (at_place i) r → DeclaredIn (at_place i) x.name q (decl.Var q v) → (c : TypeId) → v.of ≡ Some c → IsType (at_place i) a.typed c → IsControl i (control_of threatened x q v.offset a.typed)
+  control_good : (i : Inner) (r : Region) (x : Identifier) (q : List PathStep) (v : Variable) (a : Accessed) (threatened : Bool) → threatened ≡ false →
+      ordinal_if a.typed ≡ true → same_path q r.path ≡ true → Fits (at_place i) r → DeclaredIn (at_place i) x.name q (decl.Var q v) → (c : TypeId) → v.of ≡ Some c →
+      IsType (at_place i) a.typed c → IsControl i (control_of threatened x q v.offset a.typed)
   control_good i r x q v a true t o s fit d c e k = true_false t
   control_good i r x q v a false t o s fit d c e k =
       let y : Typed = record { id = Some c; shape = k.0 } in
@@ -393,7 +452,8 @@ module _ (tables : List Table) (complete : Complete tables) (path : List PathSte
 
   entire_by : (r : Region) (x : Identifier) (q : List PathStep) (v : Variable) (a : Accessed) (b : Bool) → same_path q r.path ≡ b →
       Clean (answers_of tables) (cond b (own_control r x a v.offset (record { name = x.name; path = q; control = v.control })) (refused_control x.at a.typed))
-      (λ c. (i : Inner) → Fits (at_place i) r → GoodUse (at_place i) x.name (Declared (decl.Var q v)) → GoodAccessIf (at_place i) (Declared (decl.Var q v)) (Some a) → IsControl i c)
+      (λ c. (i : Inner) → Fits (at_place i) r → GoodUse (at_place i) x.name (Declared (decl.Var q v)) → GoodAccessIf (at_place i) (Declared (decl.Var q v)) (Some a) →
+      IsControl i c)
   entire_by r x q v a false e = refused_control_clean x.at a.typed
   entire_by r x q v a true e =
       threat_clean r x.at (Some (record { name = x.name; path = q; control = v.control }))
@@ -401,42 +461,52 @@ module _ (tables : List Table) (complete : Complete tables) (path : List PathSte
       then λ u. clean_pure (control_of t x q v.offset a.typed)
       (λ o p i fit g k. control_good i r x q v a t p (unthreatened t (ordinal_if a.typed) p o) e fit g.0 k.1.0 k.1.1 k.1.2)
 
-  variable_control_clean : (r : Region) (x : Identifier) (u : Use) (a : Accessed) → Clean (answers_of tables) (variable_control r x u a) (λ c. (i : Inner) → Fits (at_place i) r → GoodUse (at_place i) x.name u → GoodAccessIf (at_place i) u (Some a) → IsControl i c)
+  variable_control_clean : (r : Region) (x : Identifier) (u : Use) (a : Accessed) →
+      Clean (answers_of tables) (variable_control r x u a) (λ c. (i : Inner) → Fits (at_place i) r → GoodUse (at_place i) x.name u → GoodAccessIf (at_place i) u (Some a) →
+      IsControl i c)
   variable_control_clean r x (Declared (decl.Var q v)) a = entire_by r x q v a (same_path q r.path) refl
-  variable_control_clean r x (OpenField k f) a = no_control_clean 346 x.at
   variable_control_clean r x u a = refused_control_clean x.at a.typed
 
-  control_by_clean : (r : Region) (x : Identifier) (u : Use) (o : Option Accessed) → Clean (answers_of tables) (control_by r x u o) (λ c. (i : Inner) → Fits (at_place i) r → GoodUse (at_place i) x.name u → GoodAccessIf (at_place i) u o → IsControl i c)
+  control_by_clean : (r : Region) (x : Identifier) (u : Use) (o : Option Accessed) →
+      Clean (answers_of tables) (control_by r x u o) (λ c. (i : Inner) → Fits (at_place i) r → GoodUse (at_place i) x.name u → GoodAccessIf (at_place i) u o → IsControl i c)
   control_by_clean r x u None = no_control_clean 305 x.at
   control_by_clean r x u (Some a) = variable_control_clean r x u a
 
-  control_clean : (r : Region) (x : Identifier) (u : Option Use) → Clean (answers_of tables) (control r x u) (λ c. (i : Inner) → Fits (at_place i) r → GoodUseIf (at_place i) x.name u → IsControl i c)
+  control_clean : (r : Region) (x : Identifier) (u : Option Use) →
+      Clean (answers_of tables) (control r x u) (λ c. (i : Inner) → Fits (at_place i) r → GoodUseIf (at_place i) x.name u → IsControl i c)
   control_clean r x None = clean_pure no_control (λ i fit g. absurd g)
   control_clean r x (Some u) = variable_here x.name u then λ o. control_by_clean r x u o so λ c f h i fit g. f i fit g (h i g)
 
   head_clean : (r : Region) (x : Identifier) → Clean (answers_of tables) (used r x >>= control r x) (λ c. (i : Inner) → Fits (at_place i) r → IsControl i c)
   head_clean r x = use_here r x then λ u. control_clean r x u so λ c f h i fit. f i fit (h i fit)
 
-  limit_clean : (p : Place) (t : Option Typed) (x : PlainExpr) → Clean (answers_of tables) (limit p t x) (λ n. (i : Inner) → Fits (at_place i) p.region → ShortExpr x → (s : Typed) → t ≡ Some s → GoodTyped tables s → sort_of s ≡ sort.Ordinal → OrdinalExpr (at_place i) n)
+  limit_clean : (p : Place) (t : Option Typed) (x : PlainExpr) →
+      Clean (answers_of tables) (limit p t x) (λ n. (i : Inner) → Fits (at_place i) p.region → ShortExpr x → (s : Typed) → t ≡ Some s → GoodTyped tables s →
+      sort_of s ≡ sort.Ordinal → OrdinalExpr (at_place i) n)
   limit_clean p t x =
       expression_here p.region x
       then λ v. clean_report_if (not (unless_missing assignable v.typed t)) 334 (first_of_expression x)
       then λ u. clean_pure v.node
       (λ e f i fit q s k g o.
-      let y = fits_value (at_place i) complete v.typed v.node s (subst (λ z. unless_missing assignable v.typed z ≡ true) k (holds (unless_missing assignable v.typed t) e)) (f i fit q).0 g in
+      let y = fits_value (at_place i) complete v.typed v.node s (subst (λ z. unless_missing assignable v.typed z ≡ true) k (holds (unless_missing assignable v.typed t) e))
+      (f i fit q).0 g in
       (y.0, y.1 ∙ o))
 
   controlled_fits : (i : Inner) (p : Place) (n : List ℕ) → PlaceFits tables path i p → PlaceFits tables path i (controlled_here n p)
-  controlled_fits i p n f = record { region = record { path = f.region.path; count = f.region.count; opened = f.region.opened }; labels = f.labels; once = f.once; outer = f.outer }
+  controlled_fits i p n f =
+      record { region = record { path = f.region.path; count = f.region.count; opened = f.region.opened }; labels = f.labels; once = f.once; outer = f.outer }
 
-  controlling_by : (i : Inner) (c : Control) (o : Option Located) (head : PlainForHead) (p : Place) → PlaceFits tables path i p → PlaceFits tables path i (controlling (record c { variable = o }) head p)
+  controlling_by : (i : Inner) (c : Control) (o : Option Located) (head : PlainForHead) (p : Place) → PlaceFits tables path i p →
+      PlaceFits tables path i (controlling (record c { variable = o }) head p)
   controlling_by i c None head p f = f
   controlling_by i c (Some l) head p f = controlled_fits i p head.variable.name f
 
   controlling_fits : (i : Inner) (c : Control) (head : PlainForHead) (p : Place) → PlaceFits tables path i p → PlaceFits tables path i (controlling c head p)
   controlling_fits i c head p f = controlling_by i c c.variable head p f
 
-  for_good : (i : Inner) (start : ℕ) (c : Control) (head : PlainForHead) (first last : PlainTypedExpr) (t : PlainTypedStatement) → IsControl i c → OrdinalExpr (at_place i) first → OrdinalExpr (at_place i) last → CheckedStatement (at_place i) t → CheckedStatement (at_place i) (for_by start c.variable c.bounds head first last t)
+  for_good : (i : Inner) (start : ℕ) (c : Control) (head : PlainForHead) (first last : PlainTypedExpr) (t : PlainTypedStatement) → IsControl i c →
+      OrdinalExpr (at_place i) first → OrdinalExpr (at_place i) last → CheckedStatement (at_place i) t →
+      CheckedStatement (at_place i) (for_by start c.variable c.bounds head first last t)
   for_good i start c head first last t k f l s =
       subst (λ y. CheckedStatement (at_place i) (for_by start y c.bounds head first last t)) (sym k.variable)
       (subst (λ y. CheckedStatement (at_place i) (for_by start (Some k.located) y head first last t)) (sym k.has_bounds)
@@ -453,7 +523,8 @@ module _ (tables : List Table) (complete : Complete tables) (path : List PathSte
   record_shape : (t : Typed) → is_some (record_by (Some t)) ≡ true → (r : RecordShape) × (t.shape ≡ shape.Rec r) × (record_by (Some t) ≡ Some r)
   record_shape t e = by t.id t.shape e
     where
-      by : (i : Option TypeId) (s : Shape) → is_some (record_by (Some (record { id = i; shape = s }))) ≡ true → (r : RecordShape) × (s ≡ shape.Rec r) × (record_by (Some (record { id = i; shape = s })) ≡ Some r)
+      by : (i : Option TypeId) (s : Shape) → is_some (record_by (Some (record { id = i; shape = s }))) ≡ true → (r : RecordShape) × (s ≡ shape.Rec r)
+          × (record_by (Some (record { id = i; shape = s })) ≡ Some r)
       by i (shape.Rec r) e = (r, refl, refl)
       by i s e = false_true e
 
@@ -462,7 +533,8 @@ module _ (tables : List Table) (complete : Complete tables) (path : List PathSte
   opened_inside i t (o ∷ os) g = ((g.0.0, g.0.1, g.0.2, slice_get_front i.opened (t ∷ []) o.number g.0.1 g.0.3, g.0.4), opened_inside i t os g.1)
 
   -- the region inside a record that is opened
-  open_fits : (i : Inner) (r : Region) (t : Option Typed) (id : TypeId) (s : RecordShape) → Fits (at_place i) r → record_by t ≡ Some s → HasShape (at_place i) id (shape.Rec s) → Fits (at_place (record i { opened = i.opened ++ id ∷ [] })) (open_record t r)
+  open_fits : (i : Inner) (r : Region) (t : Option Typed) (id : TypeId) (s : RecordShape) → Fits (at_place i) r → record_by t ≡ Some s →
+      HasShape (at_place i) id (shape.Rec s) → Fits (at_place (record i { opened = i.opened ++ id ∷ [] })) (open_record t r)
   open_fits i r t id s f e h =
       record {
         path = f.path;
@@ -476,7 +548,8 @@ module _ (tables : List Table) (complete : Complete tables) (path : List PathSte
     pub checked : CheckedRecords (at_place i) o.records types
     pub region : Fits (at_place (record i { opened = i.opened ++ types })) o.region
 
-  open_good : (i : Inner) (r : Region) (v : Option Accessed) (o : Opening) → AccessedIf (at_place i) v → is_record (typed_access v) ≡ true → Fits (at_place i) r → ((j : Inner) → Fits (at_place j) (open_record (typed_access v) r) → AreOpened j o) → AreOpened i (record o { records = opened_tree v ++ o.records })
+  open_good : (i : Inner) (r : Region) (v : Option Accessed) (o : Opening) → AccessedIf (at_place i) v → is_record (typed_access v) ≡ true → Fits (at_place i) r →
+      ((j : Inner) → Fits (at_place j) (open_record (typed_access v) r) → AreOpened j o) → AreOpened i (record o { records = opened_tree v ++ o.records })
   open_good i r None o g e f k = absurd g
   open_good i r (Some a) o g e f k =
       let id = g.0 in
@@ -490,8 +563,11 @@ module _ (tables : List Table) (complete : Complete tables) (path : List PathSte
         region = subst (λ y. Fits (at_place (record i { opened = y })) o.region) (append_assoc i.opened (id ∷ []) m.types) m.region;
       }
 
-  open_clean : (r : Region) (list : List PlainAccess) → Clean (answers_of tables) (open_records r list) (λ o. (i : Inner) → Fits (at_place i) r → ShortAccesses list → AreOpened i o)
-  open_clean r [] = clean_pure (record { region = r; records = [] }) (λ i f q. record { types = []; checked = tt; region = subst (λ y. Fits (at_place (record i { opened = y })) r) (sym (append-nil i.opened)) f })
+  open_clean : (r : Region) (list : List PlainAccess) →
+      Clean (answers_of tables) (open_records r list) (λ o. (i : Inner) → Fits (at_place i) r → ShortAccesses list → AreOpened i o)
+  open_clean r [] =
+      clean_pure (record { region = r; records = [] })
+      (λ i f q. record { types = []; checked = tt; region = subst (λ y. Fits (at_place (record i { opened = y })) r) (sym (append-nil i.opened)) f })
   open_clean r (a ∷ more) =
       accessed_clean r a
       then λ v. clean_report_if (not (is_record (typed_access v))) 336 a.name.at
@@ -503,12 +579,15 @@ module _ (tables : List Table) (complete : Complete tables) (path : List PathSte
 
   -- The labels of the statements of a sequence are those of its tree.
   abbrev pub LabelsAre : PlainStatement → PlainTypedStatement → Type 0
-  LabelsAre s t = (ss : PlainStatements) (ts : PlainTypedStatements) → outermost_labels ts ≡ map (λ n. n.value) (outermost_prefixes ss) → outermost_labels (typed_tree.Sequence t ts) ≡ map (λ n. n.value) (outermost_prefixes (Sequence s ss))
+  LabelsAre s t = (ss : PlainStatements) (ts : PlainTypedStatements) → outermost_labels ts ≡ map (λ n. n.value) (outermost_prefixes ss) →
+      outermost_labels (typed_tree.Sequence t ts) ≡ map (λ n. n.value) (outermost_prefixes (Sequence s ss))
 
   label_fits : (i : Inner) (p : Place) (n : ℕ) → PlaceFits tables path i p → PlaceFits tables path (record i { labels = n ∷ i.labels }) (label_here n p)
-  label_fits i p n f = record { region = record { path = f.region.path; count = f.region.count; opened = f.region.opened }; labels = ap (λ y. n ∷ y) f.labels; once = f.once; outer = f.outer }
+  label_fits i p n f =
+      record { region = record { path = f.region.path; count = f.region.count; opened = f.region.opened }; labels = ap (λ y. n ∷ y) f.labels; once = f.once; outer = f.outer }
 
-  pub labels_fit : (i : Inner) (p : Place) (ss : PlainStatements) (ts : PlainTypedStatements) → outermost_labels ts ≡ map (λ n. n.value) (outermost_prefixes ss) → PlaceFits tables path i p → PlaceFits tables path (record i { labels = outermost_labels ts ++ i.labels }) (labels_here ss p)
+  pub labels_fit : (i : Inner) (p : Place) (ss : PlainStatements) (ts : PlainTypedStatements) → outermost_labels ts ≡ map (λ n. n.value) (outermost_prefixes ss) →
+      PlaceFits tables path i p → PlaceFits tables path (record i { labels = outermost_labels ts ++ i.labels }) (labels_here ss p)
   labels_fit i p ss ts e f =
       record {
         region = record { path = f.region.path; count = f.region.count; opened = f.region.opened };
@@ -517,7 +596,8 @@ module _ (tables : List Table) (complete : Complete tables) (path : List PathSte
         outer = f.outer;
       }
 
-  region_fits : (i : Inner) (p : Place) (r : Region) (ts : List TypeId) → Fits (at_place (record i { opened = i.opened ++ ts })) r → PlaceFits tables path i p → PlaceFits tables path (record i { opened = i.opened ++ ts }) (record p { region = r })
+  region_fits : (i : Inner) (p : Place) (r : Region) (ts : List TypeId) → Fits (at_place (record i { opened = i.opened ++ ts })) r → PlaceFits tables path i p →
+      PlaceFits tables path (record i { opened = i.opened ++ ts }) (record p { region = r })
   region_fits i p r ts g f = record { region = g; labels = f.labels; once = f.once; outer = f.outer }
 
   -- a statement without a label
@@ -544,7 +624,8 @@ module _ (tables : List Table) (complete : Complete tables) (path : List PathSte
   call_plain_by start g None (Some a) ts = refl
   call_plain_by start g (Some c) (Some a) ts = refl
 
-  required_statement_plain : (start at : ℕ) (js : List Judged) (o : Option Called) → CleanIf (at_place nowhere) complete o Any → Clean (answers_of tables) (required_statement start at js o) Unlabelled
+  required_statement_plain : (start at : ℕ) (js : List Judged) (o : Option Called) → CleanIf (at_place nowhere) complete o Any →
+      Clean (answers_of tables) (required_statement start at js o) Unlabelled
   required_statement_plain start at js None c = no_procedure_clean start at js
   required_statement_plain start at js (Some m) c = c then λ o. clean_pure (required_node start o) (λ f. required_plain start o)
 
@@ -552,7 +633,8 @@ module _ (tables : List Table) (complete : Complete tables) (path : List PathSte
   any_if P None c = tt
   any_if P (Some m) c = c so λ x p. tt
 
-  procedure_plain_by : (r : Region) (start at : ℕ) (js : List Judged) (g : Given) (k : FormalKind) → Clean (answers_of tables) (procedure_statement r start at js (Some (record g { kind = k }))) Unlabelled
+  procedure_plain_by : (r : Region) (start at : ℕ) (js : List Judged) (g : Given) (k : FormalKind) →
+      Clean (answers_of tables) (procedure_statement r start at js (Some (record g { kind = k }))) Unlabelled
   procedure_plain_by r start at js g formal.Procedure =
       actuals_of_clean (at_place nowhere) complete r at g.heading js
       then λ o. clean_pure (call_node start (record g { kind = formal.Procedure }) o) (λ f. call_plain_by start (record g { kind = formal.Procedure }) g.callee o)
@@ -564,7 +646,10 @@ module _ (tables : List Table) (complete : Complete tables) (path : List PathSte
 
   called_plain : (r : Region) (start : ℕ) (x : Identifier) (js : List Judged) (u : Option Use) → Clean (answers_of tables) (called r start x js u) Unlabelled
   called_plain r start x js None = no_widths_clean js then λ u. clean_pure (typed_tree.Wrong start) (λ p ts. refl)
-  called_plain r start x js (Some (Declared (decl.Required n))) = required_statement_plain start x.at js (required_call r x.at n js) (any_if (λ c. GoodActuals (at_place nowhere) [] js → CalledIf (at_place nowhere) c) (required_call r x.at n js) (required_call_clean (at_place nowhere) complete r x.at n js))
+  called_plain r start x js (Some (Declared (decl.Required n))) =
+      required_statement_plain start x.at js (required_call r x.at n js)
+      (any_if (λ c. GoodActuals (at_place nowhere) [] js →
+      CalledIf (at_place nowhere) c) (required_call r x.at n js) (required_call_clean (at_place nowhere) complete r x.at n js))
   called_plain r start x js (Some u) = procedure_plain r start x.at js (given_use x.name u)
 
   call_plain : (p : Place) (start : ℕ) (x : Identifier) (given : PlainActuals) → Clean (answers_of tables) (call p start x given) Unlabelled
@@ -573,7 +658,8 @@ module _ (tables : List Table) (complete : Complete tables) (path : List PathSte
       then λ u. actuals_clean (at_place nowhere) complete p.region (procedural_of formal.Procedure x u (count given)) given
       then λ js. called_plain p.region start x js u so λ t f g h. f
 
-  for_plain : (start : ℕ) (v : Option Located) (b : Option Bounds) (head : PlainForHead) (first last : PlainTypedExpr) (t : PlainTypedStatement) → Unlabelled (for_by start v b head first last t)
+  for_plain : (start : ℕ) (v : Option Located) (b : Option Bounds) (head : PlainForHead) (first last : PlainTypedExpr) (t : PlainTypedStatement) →
+      Unlabelled (for_by start v b head first last t)
   for_plain start None b head first last t ts = refl
   for_plain start (Some l) None head first last t ts = refl
   for_plain start (Some l) (Some b) head first last t ts = refl
@@ -589,14 +675,19 @@ module _ (tables : List Table) (complete : Complete tables) (path : List PathSte
   mutual
     pub statement_clean : (p : Place) (label : Option ℕ) (s : PlainStatement) → Clean (answers_of tables) (statement p label s) (λ t. LabelsAre s t × Good p s t)
     statement_clean p label (Labelled n s) =
-        statement_clean (label_here n.value p) (Some n.at) s then λ t. clean_pure (typed_tree.Labelled n.value t) (λ g. (λ ss ts e. ap (λ y. n.value ∷ y) e, λ i f q. g.1 (record i { labels = n.value ∷ i.labels }) (label_fits i p n.value f) q))
+        statement_clean (label_here n.value p) (Some n.at) s
+        then λ t. clean_pure (typed_tree.Labelled n.value t)
+        (λ g. (λ ss ts e. ap (λ y. n.value ∷ y) e, λ i f q. g.1 (record i { labels = n.value ∷ i.labels }) (label_fits i p n.value f) q))
     statement_clean p label (Empty at) = clean_pure (typed_tree.Empty (start_or label at)) (λ ss ts e. e, λ i f q. tt)
-    statement_clean p label (Assign a at x) = clean_both (assign_plain p (start_or label a.name.at) a at x) (assign_clean p (start_or label a.name.at) a at x) so λ t g. (λ ss ts e. g.0 ts ∙ e, g.1)
-    statement_clean p label (Call x given) = clean_both (call_plain p (start_or label x.at) x given) (call_clean p (start_or label x.at) x given) so λ t g. (λ ss ts e. g.0 ts ∙ e, g.1)
+    statement_clean p label (Assign a at x) = clean_both (assign_plain p (start_or label a.name.at) a at x) (assign_clean p (start_or label a.name.at) a at x)
+        so λ t g. (λ ss ts e. g.0 ts ∙ e, g.1)
+    statement_clean p label (Call x given) = clean_both (call_plain p (start_or label x.at) x given) (call_clean p (start_or label x.at) x given)
+        so λ t g. (λ ss ts e. g.0 ts ∙ e, g.1)
     statement_clean p label (Goto at n) = clean_both (goto_plain p (start_or label at) n) (goto_clean p (start_or label at) n) so λ t g. (λ ss ts e. g.0 ts ∙ e, λ i f q. g.1 i f)
     statement_clean p label (Compound at more) =
         sequence_clean (labels_here more p) more
-        then λ ts. clean_pure (typed_tree.Compound (start_or label at) ts) (λ g. (λ ss us e. e, λ i f q. g.1 (record i { labels = outermost_labels ts ++ i.labels }) (labels_fit i p more ts g.0 f) q))
+        then λ ts. clean_pure (typed_tree.Compound (start_or label at) ts)
+        (λ g. (λ ss us e. e, λ i f q. g.1 (record i { labels = outermost_labels ts ++ i.labels }) (labels_fit i p more ts g.0 f) q))
     statement_clean p label (If at x s) =
         condition_clean p x
         then λ v. statement_clean p None s
@@ -646,14 +737,16 @@ module _ (tables : List Table) (complete : Complete tables) (path : List PathSte
               (m.types, f.region.count, m.checked, b.1 (record i { opened = i.opened ++ m.types }) (region_fits i p o.region m.types m.region f) q.1),
         ))
 
-    pub sequence_clean : (p : Place) (ss : PlainStatements) → Clean (answers_of tables) (sequence p ss) (λ ts. (outermost_labels ts ≡ map (λ n. n.value) (outermost_prefixes ss)) × GoodAll p ss ts × (HasStatement ss → IsSequence ts))
+    pub sequence_clean : (p : Place) (ss : PlainStatements) →
+        Clean (answers_of tables) (sequence p ss) (λ ts. (outermost_labels ts ≡ map (λ n. n.value) (outermost_prefixes ss)) × GoodAll p ss ts × (HasStatement ss → IsSequence ts))
     sequence_clean p NoStatements = clean_pure typed_tree.NoStatements (refl, (λ i f q. tt), λ n. n)
     sequence_clean p (Sequence s more) =
         statement_clean p None s
         then λ t. sequence_clean p more
         then λ ts. clean_pure (typed_tree.Sequence t ts) (λ g h. (h.0 more ts g.0, (λ i f q. (h.1 i f q.0, g.1 i f q.1)), λ n. tt))
 
-    pub arms_clean : (p : Place) (host : Option TypeId) (known : Selecting) (more : PlainArms) → Clean (answers_of tables) (arms p host known more) (λ ts. (i : Inner) → PlaceFits tables path i p → ShortArms more → CheckedArms (at_place i) ts)
+    pub arms_clean : (p : Place) (host : Option TypeId) (known : Selecting) (more : PlainArms) →
+        Clean (answers_of tables) (arms p host known more) (λ ts. (i : Inner) → PlaceFits tables path i p → ShortArms more → CheckedArms (at_place i) ts)
     arms_clean p host known NoArms = clean_pure typed_tree.NoArms (λ i f q. tt)
     arms_clean p host known (Arm cs s more) =
         selecting_any p.region host cs (record known { values = [] })

@@ -100,7 +100,8 @@ module _ (a : Answers) where
   bounds_by_any : (at : ℕ) (x y : Option ConstantValue) → Clean a (bounds_by at x y) Any
   bounds_by_any at None y = clean_pure None tt
   bounds_by_any at (Some v) None = clean_pure None tt
-  bounds_by_any at (Some (value.Ordinal h m)) (Some (value.Ordinal i n)) = clean_if _ (clean_refuse 317 at) (clean_if _ (clean_refuse 316 at) (clean_pure (Some (record { host = h; low = m; high = n })) tt))
+  bounds_by_any at (Some (value.Ordinal h m)) (Some (value.Ordinal i n)) =
+      clean_if _ (clean_refuse 317 at) (clean_if _ (clean_refuse 316 at) (clean_pure (Some (record { host = h; low = m; high = n })) tt))
   bounds_by_any at (Some v) (Some x) = clean_refuse 317 at
 
   pub ordinal_by_any : (at : ℕ) (o : Option Bounds) → Clean a (ordinal_by at o) Any
@@ -123,7 +124,8 @@ module _ (a : Answers) where
     selecting_by_any : (host : Option TypeId) (at : ℕ) (s : Selecting) (v : Option ConstantValue) → Clean a (selecting_by host at s v) Any
     selecting_by_any host at s None = clean_pure s tt
     selecting_by_any host at s (Some v) =
-        any_bind (clean_report_if (not (constant_fits host v)) 324 at) (λ u. any_bind (clean_report_if (list_any (same_constant v) s.known) 325 at) (λ u. clean_pure (record { values = s.values ++ numbers v; known = v ∷ s.known }) tt))
+        any_bind (clean_report_if (not (constant_fits host v)) 324 at)
+        (λ u. any_bind (clean_report_if (list_any (same_constant v) s.known) 325 at) (λ u. clean_pure (record { values = s.values ++ numbers v; known = v ∷ s.known }) tt))
 
     pub selecting_any : (host : Option TypeId) (cs : List Constant) (s : Selecting) → Clean a (selecting find host cs s) Any
     selecting_any host [] s = clean_pure s tt
@@ -136,13 +138,15 @@ module _ (a : Answers) where
   pub labels_any : (earlier list : List Number) → Clean a (labels earlier list) Any
   labels_any earlier [] = clean_pure tt tt
   labels_any earlier (n ∷ more) =
-      any_bind (clean_report_if (nat_lt 9999 n.value) 311 n.at) (λ u. any_bind (clean_report_if (list_any (has_value n.value) earlier) 307 n.at) (λ u. labels_any (n ∷ earlier) more))
+      any_bind (clean_report_if (nat_lt 9999 n.value) 311 n.at)
+      (λ u. any_bind (clean_report_if (list_any (has_value n.value) earlier) 307 n.at) (λ u. labels_any (n ∷ earlier) more))
 
   pub program_parameters_any : (known : Points) (earlier xs : List Identifier) → Clean a (program_parameters known earlier xs) Any
   program_parameters_any known earlier [] = clean_pure tt tt
   program_parameters_any known earlier (x ∷ xs) =
       any_bind (clean_report_if (list_any (λ y. bytes_eq x.name y.name) earlier) 304 x.at)
-      (λ u. any_bind (clean_report_if (not (is_some (standard_file x.name)) && not (is_text_variable (lookup (bytes_eq x.name) known))) 326 x.at) (λ u. program_parameters_any known (x ∷ earlier) xs))
+      (λ u. any_bind (clean_report_if (not (is_some (standard_file x.name)) && not (is_text_variable (lookup (bytes_eq x.name) known))) 326 x.at)
+      (λ u. program_parameters_any known (x ∷ earlier) xs))
 
 -- ---- what is kept
 
@@ -206,7 +210,9 @@ module _ (a : Answers) (path : List PathStep) (I : Known → Type 0) (kept : IsK
   typed_if_stays (Some id) = typed_stays id and λ t. stay (Some t)
 
   new_type_stays : (at : ℕ) (s : Shape) → Stays a I (new_type path at s)
-  new_type_stays at s = change_stays (λ k. record k { shapes = k.shapes ++ record { at = at; shape = s } ∷ [] }) (λ k i. kept.shapes k (k.shapes ++ record { at = at; shape = s } ∷ []) i) and λ u. stay (Some (type.Own path at))
+  new_type_stays at s =
+      change_stays (λ k. record k { shapes = k.shapes ++ record { at = at; shape = s } ∷ [] }) (λ k i. kept.shapes k (k.shapes ++ record { at = at; shape = s } ∷ []) i)
+      and λ u. stay (Some (type.Own path at))
 
   new_range_stays : (at : ℕ) (o : Option Bounds) → Stays a I (new_range path at o)
   new_range_stays at None = stay None
@@ -227,7 +233,10 @@ module _ (a : Answers) (path : List PathStep) (I : Known → Type 0) (kept : IsK
   arrays_stay : (packed : Bool) (is : List IndexType) (c : Option TypeId) → Stays a I (arrays path packed is c)
   arrays_stay packed [] c = stay c
   arrays_stay packed (i ∷ outer) c =
-      typed_if_stays c and λ t. new_type_stays i.at (shape.Arr (record { packed = packed; index = i.bounds; component = c; size = size_of t; cells = array_cells i.bounds (size_of t); file = file_in t })) and λ x. arrays_stay packed outer x
+      typed_if_stays c
+      and λ t. new_type_stays i.at
+      (shape.Arr (record { packed = packed; index = i.bounds; component = c; size = size_of t; cells = array_cells i.bounds (size_of t); file = file_in t }))
+      and λ x. arrays_stay packed outer x
 
   field_stays : (id : Option TypeId) (t : Option Typed) (in' : Option InVariant) (tags : Option ℕ) (r : RecordSoFar) (x : Identifier) → Stays a I (field id t in' tags r x)
   field_stays id t in' tags r x = rule_stays (clean_report_if (is_some (slot_named x.name r.slots)) 304 x.at) and λ u. stay (with_slot id t in' tags (free_name r.slots x.name) r)
@@ -251,14 +260,16 @@ module _ (a : Answers) (path : List PathStep) (I : Known → Type 0) (kept : IsK
     denote_stays end (Pointer at x) = domain_stays end x and λ d. new_type_stays at (shape.Ptr d)
     denote_stays end (Array at packed is d) = indices_stay end is and λ outer. denote_stays end d and λ c. arrays_stay packed outer c
     denote_stays end (Record at packed d) = field_list_stays end None d empty_record and λ r. new_type_stays at (record_shape packed r)
-    denote_stays end (Set at packed d) = denote_stays end d and λ t. ordinal_stays (first_of_denoter d) t and λ o. rule_stays (base_by_any a (first_of_denoter d) o) and λ c. new_type_stays at (shape.SetOf (Some packed) c)
+    denote_stays end (Set at packed d) = denote_stays end d and λ t. ordinal_stays (first_of_denoter d) t and λ o. rule_stays (base_by_any a (first_of_denoter d) o)
+        and λ c. new_type_stays at (shape.SetOf (Some packed) c)
     denote_stays end (File at file d) = denote_stays end d and λ t. rule_stays {P = Any} (clean_refuse 321 file)
     denote_stays end (Fields fixed) = rule_stays {P = Any} (clean_refuse 321 0)
     denote_stays end (FieldsWithVariants fixed at tag of vs) = rule_stays {P = Any} (clean_refuse 321 at)
 
     pub indices_stay : (end : Option ℕ) (is : PlainIndices) → Stays a I (indices (here end) is)
     indices_stay end NoIndices = stay []
-    indices_stay end (Index at d more) = denote_stays end d and λ t. ordinal_stays (first_of_denoter d) t and λ o. indices_stay end more and λ outer. stay (outer ++ record { at = at; bounds = o } ∷ [])
+    indices_stay end (Index at d more) = denote_stays end d and λ t. ordinal_stays (first_of_denoter d) t and λ o. indices_stay end more
+        and λ outer. stay (outer ++ record { at = at; bounds = o } ∷ [])
 
     pub field_list_stays : (end : Option ℕ) (in' : Option InVariant) (d : PlainDenoter) (r : RecordSoFar) → Stays a I (field_list (here end) in' d r)
     field_list_stays end in' (Fields fixed) r = fixed_stay end in' fixed r
@@ -337,7 +348,11 @@ module _ (a : Answers) (path : List PathStep) (I : Known → Type 0) (kept : IsK
         looked and λ d. change_stays (λ k. record k { shapes = map (pointing p.at d) k.shapes }) (λ k i. kept.shapes k (map (pointing p.at d) k.shapes) i)
       where
         looked : Stays a I (λ k. by_rule (look_at path k.names p.domain.at p.domain.name end >>= type_use p.domain.at) k)
-        looked = record { by = λ k i. (rule_stays (any_bind (look_by_any a path p.domain.at p.domain.name end (lookup (bytes_eq p.domain.name) k.names)) (λ u. type_use_any a p.domain.at u))).by k i }
+        looked =
+            record {
+              by = λ k i.
+                  (rule_stays (any_bind (look_by_any a path p.domain.at p.domain.name end (lookup (bytes_eq p.domain.name) k.names)) (λ u. type_use_any a p.domain.at u))).by k i;
+            }
 
     pub domain_types_stay : Stays a I (domain_types block)
     domain_types_stay = stay_each (domain_type block (type_part_end own.types)) (domain_type_stays (type_part_end own.types)) (flat_map (λ d. pointers d.of) own.types)
@@ -350,26 +365,48 @@ module _ (a : Answers) (path : List PathStep) (I : Known → Type 0) (kept : IsK
     cells_stay [] = stay 0
     cells_stay (p ∷ ps) = parameter_cells_stay p p.formal.kind and λ n. cells_stay ps and λ m. stay (sum_of (n ∷ m ∷ []))
 
-    routine_other : (d : PlainDeclaration) (k : HeadingKind) (earlier later : List PlainDeclaration) (h : Heading) (cells : ℕ) → IsOther (routine block (record d { heading = record d.heading { kind = k } }) earlier later h cells)
+    routine_other : (d : PlainDeclaration) (k : HeadingKind) (earlier later : List PlainDeclaration) (h : Heading) (cells : ℕ) →
+        IsOther (routine block (record d { heading = record d.heading { kind = k } }) earlier later h cells)
     routine_other d heading_kind.Procedure earlier later h cells = tt
     routine_other d (heading_kind.Function x) earlier later h cells = tt
 
     define_stays : (d : PlainDeclaration) (earlier later : List PlainDeclaration) (h : Heading) → Stays a I (define_routine block d earlier later h)
     define_stays d earlier later h =
         rule_stays (clean_report_if (is_function d.heading.kind && not (is_some (named_result d.heading.kind))) 314 d.heading.name.at)
-        and λ u. change_stays (λ k. record k { headings = record { at = d.heading.name.at; heading = h } ∷ k.headings }) (λ k i. kept.headings k (record { at = d.heading.name.at; heading = h } ∷ k.headings) i)
+        and λ u. change_stays (λ k. record k { headings = record { at = d.heading.name.at; heading = h } ∷ k.headings })
+        (λ k i. kept.headings k (record { at = d.heading.name.at; heading = h } ∷ k.headings) i)
         and λ u. cells_stay (parameters_in h.formals)
         and λ cells. fill_stays (name_of d) d.heading.name.at (routine block d earlier later h cells) (routine_other d d.heading.kind earlier later h cells)
 
     nest_stays : (d : PlainDeclaration) (earlier : List PlainDeclaration) → Stays a I (change (nest d earlier))
     nest_stays d earlier = record { by = λ k i. by (is_block d.body) k i }
       where
-        by : (x : Bool) (k : Known) → I k → I (cond x (record k { nested = k.nested ++ record { step = step_of d earlier; heading = headed k.headings (origin d earlier); function = is_function d.heading.kind; semicolon = d.semicolon } ∷ [] }) k)
-        by true k i = kept.nested k (k.nested ++ record { step = step_of d earlier; heading = headed k.headings (origin d earlier); function = is_function d.heading.kind; semicolon = d.semicolon } ∷ []) i
+        by : (x : Bool) (k : Known) → I k →
+            I (cond x
+            (record k {
+              nested =
+                  k.nested ++ record {
+                    step = step_of d earlier;
+                    heading = headed k.headings (origin d earlier);
+                    function = is_function d.heading.kind;
+                    semicolon = d.semicolon;
+                  } ∷ [];
+            }) k)
+        by true k i =
+            kept.nested k
+            (k.nested ++ record {
+              step = step_of d earlier;
+              heading = headed k.headings (origin d earlier);
+              function = is_function d.heading.kind;
+              semicolon = d.semicolon;
+            } ∷ []) i
         by false k i = i
 
-    routine_stays : (d : PlainDeclaration) (earlier later : List PlainDeclaration) (h : Heading) → Stays a I (if completes d earlier then by_rule (completing_heading d) else define_routine block d earlier later h)
-    routine_stays d earlier later h = stay_if (completes d earlier) (rule_stays (clean_report_if (has_formals d.heading.formals || is_some (named_result d.heading.kind)) 313 d.heading.name.at)) (define_stays d earlier later h)
+    routine_stays : (d : PlainDeclaration) (earlier later : List PlainDeclaration) (h : Heading) →
+        Stays a I (if completes d earlier then by_rule (completing_heading d) else define_routine block d earlier later h)
+    routine_stays d earlier later h =
+        stay_if (completes d earlier) (rule_stays (clean_report_if (has_formals d.heading.formals || is_some (named_result d.heading.kind)) 313 d.heading.name.at))
+        (define_stays d earlier later h)
 
     pub routines_stay : (earlier list : List PlainDeclaration) → Stays a I (routine_declarations block earlier list)
     routines_stay earlier [] = stay tt
@@ -385,7 +422,8 @@ module _ (a : Answers) (path : List PathStep) (I : Known → Type 0) (kept : IsK
     program_heading_stays (Some h) = record { by = λ k i. (rule_stays (program_parameters_any a k.names [] h.parameters)).by k i }
 
     -- before the variable part, and behind it
-    pub before_variables : Stays a I (by_rule (labels [] own.labels) >> (each (constant_definition block) own.constants >> (each (type_definition block) own.types >> domain_types block)))
+    pub before_variables : Stays a I
+        (by_rule (labels [] own.labels) >> (each (constant_definition block) own.constants >> (each (type_definition block) own.types >> domain_types block)))
     before_variables = labels_stay and λ u. constants_part_stays and λ u. types_stay and λ u. domain_types_stay
 
     pub behind_variables : Stays a I (routine_declarations block [] own.declarations >> program_heading own.program)

@@ -327,7 +327,6 @@ entire_control r x a offset e = if same_path e.path r.path then own_control r x 
 
 abbrev pub variable_control : Region → Identifier → Use → Accessed → Rule Control
 variable_control r x (Declared (decl.Var path v)) a = entire_control r x a v.offset (record { name = x.name; path = path; control = v.control })
-variable_control r x (OpenField number f) a = report 346 x.at >> pure no_control
 variable_control r x u a = refused_control x.at a.typed
 
 -- 305: it is neither a variable nor a parameter. At the name.

@@ -1,4 +1,4 @@
-use Rattle.mp_meaning.proofs.RunExamples.{empty_run, if_run, case_run, repeat_run, downto_run, not_entered_run, for_limit_run, with_run, goto_back_run}
+use Rattle.mp_meaning.proofs.RunExamples.{empty_run, if_run, case_run, repeat_run, downto_run, not_entered_run, for_limit_run, with_run, goto_back_run, goto_around_run}
 use Rattle.mp_meaning.proofs.examples.statements_example.Goals as goal
 
 pub returns-clause-empty_run : goal.returns-clause-empty_run
@@ -27,3 +27,6 @@ returns-clause-with_run c = with_run
 
 pub returns-clause-goto_back_run : goal.returns-clause-goto_back_run
 returns-clause-goto_back_run c = goto_back_run
+
+pub returns-clause-goto_around_run : goal.returns-clause-goto_around_run
+returns-clause-goto_around_run c = goto_around_run

@@ -1,7 +1,9 @@
 use Rattle.std.proofs.Common.{arith, subst, sym}
 use Rattle.std.proofs.lemmas.Grind.{common_steps}
-use Rattle.mp_machine.specs.Outcomes.{Outcome}
+use Rattle.mp_machine.specs.CallRows as call
+use Rattle.mp_machine.specs.Outcomes.{Done, Outcome}
 use Rattle.mp_machine.specs.Shown.{Agrees, state_of, world_of}
+use Rattle.mp_machine.proofs.KeptLemmas.{loaded_kept}
 use Rattle.mp_machine.proofs.EnterLemmas.{enter_limit_1, enter_limit_2, enter_room}
 use Rattle.mp_machine.proofs.processor.Processor.enter.Goals as goal
 
@@ -28,4 +30,9 @@ returns-clause-row c paths =
     c.args.self.now.at c.args.code.now (paths c.args.block) c.args.parent c.args.cells.now
     c.args.self.now.used c.object_cells.result c.requires.sound.counts c.object_cells.ensures.value
     (grind (arith, common_steps)) (grind (arith, common_steps)) (grind (arith, common_steps))))
-    (c.begin_block.ensures.row paths)
+    (subst (λ s. Agrees (Done tt (call.entered c.args.code.now (paths c.args.block) c.args.parent c.args.cells.now s)) c.begin_block.result
+    (state_of paths c.begin_block.new.self)) (c.make_room.ensures.state paths) (c.begin_block.ensures.row paths))
+
+pub returns-clause-loaded : goal.returns-clause-loaded
+returns-clause-loaded c n within l =
+    c.begin_block.ensures.loaded n within (loaded_kept c.args.self.now c.make_room.new.self n c.make_room.ensures.kept l)

@@ -18,3 +18,9 @@ returns-clause-kept c =
     (unmoved_two c.take_number.new.self c.take_number-2.new.self c.put_members-2.new.self c.take_number-2.ensures.kept
     (unmoved_two c.take_number-2.new.self c.take_members.new.self c.put_members-2.new.self c.take_members.ensures.kept
     c.put_members-2.ensures.kept))
+
+pub returns-then-not-may_be_member-clause-kept : goal.returns-then-not-may_be_member-clause-kept
+returns-then-not-may_be_member-clause-kept c =
+    unmoved_two c.args.self.now c.take_number.new.self c.take_members.new.self c.take_number.ensures.kept
+    (unmoved_two c.take_number.new.self c.take_number-2.new.self c.take_members.new.self c.take_number-2.ensures.kept
+    c.take_members.ensures.kept)

@@ -1,0 +1,15 @@
+use Rattle.std.proofs.Common.{◌∙◌, ◌∷◌, ◌++◌, [], ap, arith}
+use Rattle.mp_files.specs.RunFiles.{RunFiles, after_rewrite}
+use Rattle.mp_files.specs.TextFiles as text
+use Rattle.mp_machine.proofs.EnterLemmas.{not_lt}
+use Rattle.mp_machine.proofs.WriteLemmas.{made_anew}
+use Rattle.mp_machine.proofs.given_files.GivenFiles.make_to_write.Goals as goal
+
+pub returns : goal.returns
+returns c =
+    let h = c.self.invariant in
+    let number = c.in_ok-number.ensures.number in
+    c.rewrite.ensures.begun ∙ ap (after_rewrite c.in_ok-number.number) c.in_ok-number.ensures.made
+    ∙ made_anew text.rewrite c.in_ok-number.number c.self.inside.files number
+    (not_lt c.in_ok-number.number 2 (let l = h.0 in let m = h.1 in omega (arith, l, m, number)))
+    ∙ ap (λ (run : RunFiles). record { files = run.files ++ text.rewrite text.closed_file ∷ []; written = run.written }) c.self.view_is

@@ -1,0 +1,8 @@
+use Rattle.mp_machine.proofs.KeptLemmas.{unmoved_two}
+use Rattle.mp_machine.proofs.processor.Processor.index.Goals as goal
+
+pub returns-clause-kept : goal.returns-clause-kept
+returns-clause-kept c =
+    unmoved_two c.args.self.now c.take_number.new.self c.put_component.new.self c.take_number.ensures.kept
+    (unmoved_two c.take_number.new.self c.take_address.new.self c.put_component.new.self c.take_address.ensures.kept
+    c.put_component.ensures.kept)
