@@ -8,6 +8,8 @@
 mod constants;
 mod known;
 mod names;
+mod ordinals;
+mod simple;
 mod types;
 mod walks;
 

@@ -45,7 +45,7 @@ fn typed_outside<S: Scope>(
 }
 
 // The type with this identity. The shapes of the block's own types are known.
-fn typed_here<S: Scope>(
+pub(crate) fn typed_here<S: Scope>(
     alloc: Global,
     path: &Path,
     id: TypeId,
