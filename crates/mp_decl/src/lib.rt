@@ -6,6 +6,7 @@
 #![tactic(auto)]
 
 mod constants;
+mod enumerations;
 mod known;
 mod names;
 mod ordinals;

@@ -118,7 +118,13 @@ pub(crate) fn subrange<S: Scope>(
 }
 
 /// Fills in what a name declares, where its first defining point has this ordinal.
-pub(crate) fn fill<S: Scope>(name: &Name, at: u32, of: Decl, scope: &mut S, known: &mut Known) -> Result<(), Memory>
+pub(crate) fn fill<S: Scope>(
+    name: &Name,
+    at: u32,
+    of: Decl,
+    scope: &mut S,
+    known: &mut Known,
+) -> Result<(), Memory>
     ensures { Follows (rule.fill name.now at of) (S.state scope.old) (known_of known.old) (S.state scope.new) (known_of known.new) result }
 {
     known.names.set(name, at, of);
