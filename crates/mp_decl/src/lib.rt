@@ -7,6 +7,7 @@
 
 mod constants;
 mod enumerations;
+mod heading_types;
 mod known;
 mod names;
 mod ordinals;
