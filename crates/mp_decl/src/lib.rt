@@ -5,9 +5,14 @@
 //! definitions of `mp_tables`: what is found, which errors are reported, and what the scope is asked.
 #![tactic(auto)]
 
+mod arrays;
 mod constants;
+mod enumerations;
+mod heading_types;
 mod known;
 mod names;
+mod ordinals;
+mod simple;
 mod types;
 mod walks;
 

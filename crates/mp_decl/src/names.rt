@@ -1,4 +1,5 @@
 ghost use Rattle.std.specs.Prelude.{◌≡◌, ◌++◌, ◌∷◌, [], OnOk};
+ghost use Rattle.mp_tables.specs.Reports as reports;
 ghost use Rattle.mp_tables.specs.Reports.{Follows, FollowsAs};
 ghost use Rattle.mp_tables.specs.Names as name;
 ghost use Rattle.mp_tables.specs.Denoters as denoter;
@@ -15,6 +16,22 @@ pub(crate) fn report(code: u16, at: u32, errors: &mut Items<RuleError>) -> Resul
     ensures { OnOk result (errors.new ≡ errors.old ++ record { at = at; code = code } ∷ []) }
 {
     errors.push(RuleError { at, code })?;
+    Ok(())
+}
+
+// Reports an error at the token of this ordinal, where something is wrong.
+pub(crate) fn report_if<S: Scope>(
+    wrong: bool,
+    code: u16,
+    at: u32,
+    scope: &mut S,
+    errors: &mut Items<RuleError>,
+) -> Result<(), Memory>
+    ensures { Follows (reports.report_if wrong code at) (S.state scope.old) errors.old (S.state scope.new) errors.new result }
+{
+    if wrong {
+        report(code, at, errors)?;
+    }
     Ok(())
 }
 
