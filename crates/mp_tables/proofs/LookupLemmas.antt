@@ -1,11 +1,15 @@
 -- Lists that are searched by an index: one more item keeps the index right, and what is found by it is the first of its key.
-use Rattle.std.proofs.Common.{◌≡◌, ℕ, suc, ◌+◌, Bool, true, false, cond, List, [], ◌∷◌, ◌++◌, length, slice_get, Option, Some, None, is_some, find, Decides, nat_eq, refl, sym, ap, subst, ◌∙◌, arith}
+use Rattle.std.proofs.Common.{◌≡◌, ℕ, suc, ◌+◌, Bool, true, false, cond, ◌&&◌, List, [], ◌∷◌, ◌++◌, length, slice_get, Option, Some, None, is_some, find, Decides, nat_eq, refl, sym, ap, subst, ◌∙◌, arith}
 use Rattle.std.proofs.lemmas.Bool.Decides.{Decides-eqb}
+use Rattle.std.proofs.lemmas.Slice.Eq.{bytes_eq-Decides}
 use Rattle.std.specs.Prelude.{option_map, option_and_then, bytes_eq}
 use Rattle.std.specs.Map.{lookup}
 use Rattle.mp_tables.specs.declared.types.Slot.{Slot}
+use Rattle.mp_base.specs.declared.path.PathStep.{PathStep}
+use Rattle.mp_ast.specs.Blocks.{same_step}
 use Rattle.mp_tables.specs.Lookups.{IsIndex, first_place}
 use Rattle.mp_tables.specs.Sizes.{has_name, numbered_slot}
+use Rattle.mp_tables.proofs.SortLemmas.{same_step-eq}
 
 pub none_is : {A : Type 0} (o : Option A) → is_some o ≡ false → o ≡ None
 none_is None e = refl
@@ -109,6 +113,14 @@ nat_eq-turned k q = by (nat_eq k q) (nat_eq q k) refl refl
     by false false e f = e ∙ sym f
     by true false e f = let g = (Decides-eqb q k).1 (sym ((Decides-eqb k q).0 e)) in absurd (let n : ⊥ = cc in n)
     by false true e f = let g = (Decides-eqb k q).1 (sym ((Decides-eqb q k).0 f)) in absurd (let n : ⊥ = cc in n)
+
+-- ---- steps as keys
+
+own_step : (s : PathStep) → same_step s s ≡ true
+own_step s = (λ i. (bytes_eq-Decides s.name s.name).1 refl i && (Decides-eqb s.nth s.nth).1 refl i)
+
+pub same_step-Decides : (s t : PathStep) → Decides (same_step s t) (s ≡ t)
+same_step-Decides s t = (same_step-eq s t, λ e. subst (λ u. same_step s u ≡ true) e (own_step s))
 
 -- ---- fields with their numbers
 
