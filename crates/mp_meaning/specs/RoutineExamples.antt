@@ -28,6 +28,14 @@ q = codes "q"
 abbrev shown : PlainTypedExpr → PlainTypedStatement
 shown e = writeln 1 (integer_of_width e (Some (number 1)) ∷ [])
 
+-- where the activations are, innermost first
+abbrev places : Standing → List Place
+places (Stands c) = chain c
+places _ = []
+
+abbrev in_p : ℕ → Place
+in_p at = record { path = []; ordinal = at }
+
 -- ---- program p(output); var i: integer; procedure q(n: integer); begin n := n + 1 end;
 -- begin i := 1; q(i); write(i: 1) end.
 
@@ -117,7 +125,9 @@ jumps_far = of_blocks (
 
 -- its goto leads into that activation, and ends the newer ones
 abbrev pub JumpsFarExample : Type 0
-JumpsFarExample = at_step jumps_far [] 20 ≡ ended 11 (codes "1" ++ 10 ∷ [])
+JumpsFarExample =
+    (places (at_step jumps_far [] 11) ≡ record { path = calling; ordinal = 1 } ∷ in_p 23 ∷ []) ×
+    (at_step jumps_far [] 20 ≡ ended 11 (codes "1" ++ 10 ∷ []))
 
 -- ---- program p(output); var a: integer; function f(n: integer): integer;
 -- begin if n < 2 then f := 1 else f := n * f(n - 1) end;
@@ -139,13 +149,6 @@ told = of_blocks (
     (assign 6 (result_of f 1 1) (number 1))
     (assign 10 (result_of f 1 1) (two (load (own n 1 0)) operator.Multiply
     (apply factorial (with_values (two (load (own n 1 0)) operator.Subtract (number 1) ∷ []))))))) ∷ [])
-
-abbrev places : Standing → List Place
-places (Stands c) = chain c
-places _ = []
-
-abbrev in_p : ℕ → Place
-in_p at = record { path = []; ordinal = at }
 
 abbrev in_f : ℕ → Place
 in_f at = record { path = factorial; ordinal = at }
