@@ -1,4 +1,4 @@
-use Rattle.std.proofs.Common.{◌≡◌, ◌==◌, Bool, true, false, List, [], ◌∷◌, length, refl, sym, ◌∙◌}
+use Rattle.std.proofs.Common.{◌≡◌, ◌==◌, true, false, List, [], ◌∷◌, length, refl, sym, ◌∙◌}
 use Rattle.mp_ast.specs.declared.headings.FormalSection.{FormalSection}
 use Rattle.mp_ast.specs.PlainHeadings.{formals_of, plain_formal_section}
 use Rattle.mp_tables.specs.Elaboration as rule
