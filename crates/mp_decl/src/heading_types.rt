@@ -1,17 +1,20 @@
 // The types that headings name (ISO 7185, 6.6.2, 6.6.3.1).
 ghost use Rattle.std.specs.Prelude.{◌≡◌, if◌then◌else◌, is_some};
-ghost use Rattle.mp_tables.specs.Reports.{Follows, pure, refuse};
+ghost use Rattle.mp_tables.specs.Reports.{Follows, ◌>>=◌ as ◌>>=ʳ◌, pure, refuse};
 ghost use Rattle.mp_tables.specs.Denoters as rule;
 ghost use Rattle.mp_tables.specs.Headings as heading;
 ghost use Rattle.mp_tables.specs.TypeRelations as relation;
+ghost use Rattle.mp_decl.specs.Judged.{known_of, MayAskIf};
 
+use crate::known::Known;
 use crate::names::report;
-use mp_base::Memory;
+use crate::types::typed_here_if;
+use mp_base::{Memory, Path};
 use mp_layout::cells;
 use mp_scope::Scope;
-use mp_tables::{RuleError, Shape, TypeId, Typed};
+use mp_tables::{Shape, TypeId, Typed};
 use mp_types::{holds_file, ordinal};
-use sqlite_items::Items;
+use std::alloc::Global;
 
 /// The number of cells of a type, 0 where it is missing.
 pub(crate) fn size_of(t: &Option<Typed>) -> u32
@@ -72,12 +75,12 @@ fn without_files<S: Scope>(
     id: Option<TypeId>,
     t: &Option<Typed>,
     scope: &mut S,
-    errors: &mut Items<RuleError>,
+    known: &mut Known,
 ) -> Result<Option<TypeId>, Memory>
-    ensures { Follows (if rule.file_in t.now then refuse 320 at else pure id) (S.state scope.old) errors.old (S.state scope.new) errors.new result }
+    ensures { Follows (rule.by_rule (if rule.file_in t.now then refuse 320 at else pure id)) (S.state scope.old) (known_of known.old) (S.state scope.new) (known_of known.new) result }
 {
     if file_in(t) {
-        report(320, at, errors)?;
+        report(320, at, &mut known.errors)?;
         return Ok(None);
     }
     Ok(id)
@@ -89,13 +92,45 @@ fn with_simple<S: Scope>(
     id: Option<TypeId>,
     t: &Option<Typed>,
     scope: &mut S,
-    errors: &mut Items<RuleError>,
+    known: &mut Known,
 ) -> Result<Option<TypeId>, Memory>
-    ensures { Follows (if heading.simple_or_pointer t.now then pure id else refuse 323 at) (S.state scope.old) errors.old (S.state scope.new) errors.new result }
+    ensures { Follows (rule.by_rule (if heading.simple_or_pointer t.now then pure id else refuse 323 at)) (S.state scope.old) (known_of known.old) (S.state scope.new) (known_of known.new) result }
 {
     if simple_or_pointer(t) {
         return Ok(id);
     }
-    report(323, at, errors)?;
+    report(323, at, &mut known.errors)?;
     Ok(None)
+}
+
+/// The type of a value parameter, which may hold no file (ISO 7185, 6.6.3.2). Its name has this ordinal.
+pub(crate) fn value_type<S: Scope>(
+    alloc: Global,
+    path: &Path,
+    at: u32,
+    id: Option<TypeId>,
+    scope: &mut S,
+    known: &mut Known,
+) -> Result<Option<TypeId>, Memory>
+    requires { MayAskIf (S.state scope.old).stands path.now id }
+    ensures { Follows (rule.typed_here_if path.now id >>=ʳ (λ t. rule.by_rule (if rule.file_in t then refuse 320 at else pure id))) (S.state scope.old) (known_of known.old) (S.state scope.new) (known_of known.new) result }
+{
+    let t = typed_here_if(alloc, path, &id, scope, known)?;
+    without_files(at, id, &t, scope, known)
+}
+
+/// The type of a function's result, which is ordinal or a pointer type (ISO 7185, 6.6.2). Its name has this ordinal.
+pub(crate) fn result_type<S: Scope>(
+    alloc: Global,
+    path: &Path,
+    at: u32,
+    id: Option<TypeId>,
+    scope: &mut S,
+    known: &mut Known,
+) -> Result<Option<TypeId>, Memory>
+    requires { MayAskIf (S.state scope.old).stands path.now id }
+    ensures { Follows (rule.typed_here_if path.now id >>=ʳ (λ t. rule.by_rule (if heading.simple_or_pointer t then pure id else refuse 323 at))) (S.state scope.old) (known_of known.old) (S.state scope.new) (known_of known.new) result }
+{
+    let t = typed_here_if(alloc, path, &id, scope, known)?;
+    with_simple(at, id, &t, scope, known)
 }

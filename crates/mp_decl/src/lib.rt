@@ -12,6 +12,7 @@ mod heading_types;
 mod known;
 mod names;
 mod ordinals;
+mod routine_headings;
 mod simple;
 mod types;
 mod walks;

@@ -1,20 +1,17 @@
 // Type denoters (ISO 7185, 6.4): which types they denote, and their errors.
-ghost use Rattle.std.specs.Prelude.{◌≡◌, IfOk, Some, None};
+ghost use Rattle.std.specs.Prelude.{◌≡◌};
 ghost use Rattle.mp_ast.specs.Blocks as block;
 ghost use Rattle.mp_tables.specs.Reports.{Follows};
 ghost use Rattle.mp_tables.specs.Names as name;
 ghost use Rattle.mp_tables.specs.Denoters as rule;
 ghost use Rattle.mp_tables.specs.Standing.{TypeStands};
-ghost use Rattle.mp_decl.specs.Judged.{known_of, MayAsk, MayAskIf, SortsStand};
+ghost use Rattle.mp_decl.specs.Judged.{known_of, MayAsk, MayAskIf};
 
 use crate::known::Known;
-use crate::names::{look, report};
-use mp_ast::Identifier;
 use mp_base::{Memory, Path};
 use mp_scope::Scope;
-use mp_tables::{Decl, Required, RuleError, Shape, TypeId, Typed, copy_type};
+use mp_tables::{Shape, TypeId, Typed, copy_type};
 use mp_types::required_shape;
-use sqlite_items::Items;
 use std::alloc::Global;
 
 // Whether two paths are those of one block.

@@ -1,0 +1,10 @@
+use Rattle.std.proofs.Common.{if◌then◌else◌}
+use Rattle.mp_tables.specs.Reports.{pure, refuse}
+use Rattle.mp_tables.specs.Denoters as rule
+use Rattle.mp_tables.specs.Headings as heading
+use Rattle.mp_tables.proofs.FollowsLemmas.{follows_on}
+use Rattle.mp_decl.proofs.heading_types.result_type.Goals as goal
+
+pub returns : goal.returns
+returns g c =
+    follows_on (rule.typed_here_if c.args.path.now c.args.id) (λ t. rule.by_rule (if heading.simple_or_pointer t then pure c.args.id else refuse 323 c.args.at)) _ _ _ _ _ _ _ _ c.in_ok-t.ensures c.with_simple.ensures
