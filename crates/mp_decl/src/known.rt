@@ -2,8 +2,9 @@ ghost use Rattle.std.specs.Prelude.{◌≡◌, ◌++◌, ◌∷◌, [], OnOk};
 ghost use Rattle.std.specs.Option.{option_copied};
 ghost use Rattle.mp_tables.specs.Seen.{shape_in};
 
+use crate::frames::Slots;
 use mp_base::Memory;
-use mp_tables::{FrameSlot, Heading, Names, Nested, RuleError, Shape, Shaped};
+use mp_tables::{Heading, Names, Nested, RuleError, Shape, Shaped};
 use sqlite_items::Items;
 use std::alloc::Global;
 use std::marker::Model;
@@ -76,6 +77,6 @@ pub struct Known {
     pub headings: Items<Headed>,
     pub nested: Items<Nested>,
     /// The frame so far.
-    pub frame: Items<FrameSlot>,
+    pub frame: Slots,
     pub errors: Items<RuleError>,
 }
