@@ -5,6 +5,7 @@
 //! definitions of `mp_tables`: what is found, which errors are reported, and what the scope is asked.
 #![tactic(auto)]
 
+mod arrays;
 mod constants;
 mod enumerations;
 mod frames;

@@ -12,7 +12,7 @@ use crate::names::{look, report};
 use mp_ast::Identifier;
 use mp_base::{Memory, Path};
 use mp_scope::Scope;
-use mp_tables::{Decl, Required, RuleError, Shape, TypeId, Typed};
+use mp_tables::{Decl, Required, RuleError, Shape, TypeId, Typed, copy_type};
 use mp_types::required_shape;
 use sqlite_items::Items;
 use std::alloc::Global;
@@ -73,5 +73,22 @@ pub(crate) fn typed_here<S: Scope>(
         TypeId::Boolean => typed_outside(alloc, TypeId::Boolean, scope, known),
         TypeId::Char => typed_outside(alloc, TypeId::Char, scope, known),
         TypeId::Text => typed_outside(alloc, TypeId::Text, scope, known),
+    }
+}
+
+// The type with this identity, where there is one.
+pub(crate) fn typed_here_if<S: Scope>(
+    alloc: Global,
+    path: &Path,
+    id: &Option<TypeId>,
+    scope: &mut S,
+    known: &mut Known,
+) -> Result<Option<Typed>, Memory>
+    requires { MayAskIf (S.state scope.old).stands path.now id.now }
+    ensures { Follows (rule.typed_here_if path.now id.now) (S.state scope.old) (known_of known.old) (S.state scope.new) (known_of known.new) result }
+{
+    match copy_type(id)? {
+        Some(id) => Ok(Some(typed_here(alloc, path, id, scope, known)?)),
+        None => Ok(None),
     }
 }
