@@ -11,7 +11,10 @@ use Rattle.mp_tables.specs.declared.tables.Entry.{Entry}
 use Rattle.mp_tables.specs.Standing.{Types}
 use Rattle.mp_tables.specs.Names.{Use, Declared}
 use Rattle.mp_tables.specs.DefiningPoints.{Points}
-use Rattle.mp_tables.specs.Denoters.{Known, Headed}
+use Rattle.mp_tables.specs.Reports.{pure, ◌>>=◌}
+use Rattle.mp_tables.specs.Denoters.{Known, Headed, Elaboration, typed_here_if, size_of}
+use Rattle.mp_tables.specs.Headings as heading
+use Rattle.mp_decl.specs.declared.parameters.FormalParameter.{FormalParameter}
 use Rattle.mp_decl.specs.declared.known.Known.{Known as KnownHere}
 use Rattle.mp_decl.specs.declared.known.Headed.{Headed as HeadedHere}
 
@@ -20,12 +23,19 @@ abbrev pub use_of : Option Decl → Option Use
 use_of None = None
 use_of (Some d) = Some (Declared d)
 
+abbrev pub parameter_of : FormalParameter → heading.FormalParameter
+parameter_of p = record { formal = p.formal.now; own = p.own }
+
 abbrev pub headed_of : HeadedHere → Headed
 headed_of h = record { at = h.at; heading = h.heading }
 
 -- what the code knows of a block
 abbrev pub known_of : KnownHere → Known
 known_of k = record { names = k.names; shapes = k.shapes; headings = map headed_of k.headings; nested = k.nested; frame = k.frame; errors = k.errors }
+
+-- the number of cells of a value parameter of this type
+abbrev pub value_cells : List PathStep → Option TypeId → Elaboration ℕ
+value_cells path id = typed_here_if path id >>= (λ t. pure (size_of t))
 
 -- ---- which types may be asked for: those of the block itself, which never are, and those that stand
 

@@ -1,4 +1,5 @@
-use mp_tables::{FrameSlot, Heading, Names, NestedBlocks, RuleError, Shapes};
+use crate::frames::Slots;
+use mp_tables::{Heading, Names, NestedBlocks, RuleError, Shapes};
 use sqlite_items::Items;
 
 /// The heading that a name's first heading gives, by the ordinal of that name.
@@ -17,6 +18,6 @@ pub struct Known {
     pub headings: Items<Headed>,
     pub nested: NestedBlocks,
     /// The frame so far.
-    pub frame: Items<FrameSlot>,
+    pub frame: Slots,
     pub errors: Items<RuleError>,
 }

@@ -8,15 +8,20 @@
 mod arrays;
 mod constants;
 mod enumerations;
+mod frames;
 mod heading_types;
 mod known;
 mod names;
 mod ordinals;
+mod parameters;
 mod routine_headings;
 mod simple;
+mod slots;
 mod types;
 mod walks;
 
 pub use constants::constant;
+pub use frames::Slots;
 pub use known::{Headed, Known};
+pub use parameters::{FormalParameter, parameters_in};
 pub use walks::{Walked, walk_all};
