@@ -1,5 +1,5 @@
 -- How what the code finds is seen by the rules.
-use Rattle.std.specs.Prelude.{◌≡◌, ℕ, true, ◌||◌, IsTrue, List, Option, Some, None, map, bytes_eq}
+use Rattle.std.specs.Prelude.{◌≡◌, ℕ, ◌||◌, IsTrue, List, Option, Some, None, map, bytes_eq}
 use Rattle.std.specs.Map.{lookup}
 use Rattle.mp_base.specs.declared.path.PathStep.{PathStep}
 use Rattle.mp_ast.specs.Blocks.{same_path}
