@@ -12,8 +12,8 @@ pub invariant_of-self-then-contains_key : goal.invariant_of-self-then-contains_k
 invariant_of-self-then-contains_key c =
     let known = sym c.contains_key.ensures ∙ c.if-contains_key.true in
     subst (IsIndex same_step (λ step x. same_step step x.step) c.self.inside.first.entries) (sym c.in_ok-push.ensures.ok)
-      (index_known same_step (λ step x. same_step step x.step) same_step-Decides c.self.inside.first.entries c.self.inside.items _ c.args.nested.step
-        c.self.invariant (λ q. refl) known)
+    (index_known same_step (λ step x. same_step step x.step) same_step-Decides c.self.inside.first.entries c.self.inside.items _ c.args.nested.step
+    c.self.invariant (λ q. refl) known)
 
 pub invariant_of-self-2 : goal.invariant_of-self-2
 invariant_of-self-2 c =
@@ -25,11 +25,11 @@ invariant_of-self-2 c =
     let free = none_is (lookup (same_step step) c.self.inside.first.entries) new in
     let absent = (λ i. lookup (same_step (copy_is i)) (same i)) ∙ free in
     let made =
-        subst (λ r. OnOk r (c.insert.new.self.entries ≡ insert_entry same_step c.reserve.new.self.entries copied c.len-number.result)) c.unwrap.ensures c.insert.ensures.entries
-        ∙ insert_entry-new same_step c.reserve.new.self copied c.len-number.result absent in
+    subst (λ r. OnOk r (c.insert.new.self.entries ≡ insert_entry same_step c.reserve.new.self.entries copied c.len-number.result)) c.unwrap.ensures c.insert.ensures.entries
+    ∙ insert_entry-new same_step c.reserve.new.self copied c.len-number.result absent in
     let length_is : c.len-number.result ≡ length c.self.inside.items = c.len-number.ensures in
     let index =
-        index_new same_step (λ step x. same_step step x.step) c.self.inside.first.entries c.self.inside.items c.args.nested step c.self.invariant (λ q. refl) in
+    index_new same_step (λ step x. same_step step x.step) c.self.inside.first.entries c.self.inside.items c.args.nested step c.self.invariant (λ q. refl) in
     let entries = made ∙ (λ i. same i ++ (copy_is i, length_is i) ∷ []) in
     subst (λ items. IsIndex same_step (λ step x. same_step step x.step) c.insert.new.self.entries items) (sym c.in_ok-push-2.ensures.ok)
-      (subst (λ entries. IsIndex same_step (λ step x. same_step step x.step) entries (c.self.inside.items ++ c.args.nested ∷ [])) (sym entries) index)
+    (subst (λ entries. IsIndex same_step (λ step x. same_step step x.step) entries (c.self.inside.items ++ c.args.nested ∷ [])) (sym entries) index)

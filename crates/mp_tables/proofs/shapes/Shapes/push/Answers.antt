@@ -1,4 +1,4 @@
-use Rattle.std.proofs.Common.{◌≡◌, ap, sym, subst, refl, ◌∙◌, nat_eq, length, OnOk, ◌++◌, ◌∷◌, []}
+use Rattle.std.proofs.Common.{◌≡◌, ap, sym, subst, ◌∙◌, nat_eq, length, OnOk, ◌++◌, ◌∷◌, []}
 use Rattle.std.proofs.lemmas.Bool.Decides.{Decides-eqb}
 use Rattle.std.specs.Map.{lookup}
 use Rattle.indexmap.specs.IndexMap.{insert_entry}
@@ -11,8 +11,8 @@ pub invariant_of-self-then-contains_key : goal.invariant_of-self-then-contains_k
 invariant_of-self-then-contains_key c =
     let known = sym c.contains_key.ensures ∙ c.if-contains_key.true in
     subst (IsIndex nat_eq (λ at x. nat_eq x.at at) c.self.inside.first.entries) (sym c.in_ok-push.ensures.ok)
-      (index_known nat_eq (λ at x. nat_eq x.at at) Decides-eqb c.self.inside.first.entries c.self.inside.items _ c.args.shaped.at c.self.invariant
-        (nat_eq-turned c.args.shaped.at) known)
+    (index_known nat_eq (λ at x. nat_eq x.at at) Decides-eqb c.self.inside.first.entries c.self.inside.items _ c.args.shaped.at c.self.invariant
+    (nat_eq-turned c.args.shaped.at) known)
 
 pub invariant_of-self-2 : goal.invariant_of-self-2
 invariant_of-self-2 c =
@@ -20,13 +20,13 @@ invariant_of-self-2 c =
     let new = sym c.contains_key.ensures ∙ c.if-contains_key.false in
     let free = none_is (lookup (nat_eq c.args.shaped.at) c.self.inside.first.entries) new in
     let made =
-        subst (λ r. OnOk r (c.insert.new.self.entries ≡ insert_entry nat_eq c.reserve.new.self.entries c.args.shaped.at c.len-number.result)) c.unwrap.ensures
-          c.insert.ensures.entries
-        ∙ insert_entry-new nat_eq c.reserve.new.self c.args.shaped.at c.len-number.result (ap (lookup (nat_eq c.args.shaped.at)) same ∙ free) in
+    subst (λ r. OnOk r (c.insert.new.self.entries ≡ insert_entry nat_eq c.reserve.new.self.entries c.args.shaped.at c.len-number.result)) c.unwrap.ensures
+    c.insert.ensures.entries
+    ∙ insert_entry-new nat_eq c.reserve.new.self c.args.shaped.at c.len-number.result (ap (lookup (nat_eq c.args.shaped.at)) same ∙ free) in
     let length_is : c.len-number.result ≡ length c.self.inside.items = c.len-number.ensures in
     let index =
-        index_new nat_eq (λ at x. nat_eq x.at at) c.self.inside.first.entries c.self.inside.items c.args.shaped c.args.shaped.at c.self.invariant
-          (nat_eq-turned c.args.shaped.at) in
+    index_new nat_eq (λ at x. nat_eq x.at at) c.self.inside.first.entries c.self.inside.items c.args.shaped c.args.shaped.at c.self.invariant
+    (nat_eq-turned c.args.shaped.at) in
     let entries = made ∙ (λ i. same i ++ (c.args.shaped.at, length_is i) ∷ []) in
     subst (λ items. IsIndex nat_eq (λ at x. nat_eq x.at at) c.insert.new.self.entries items) (sym c.in_ok-push-2.ensures.ok)
-      (subst (λ entries. IsIndex nat_eq (λ at x. nat_eq x.at at) entries (c.self.inside.items ++ c.args.shaped ∷ [])) (sym entries) index)
+    (subst (λ entries. IsIndex nat_eq (λ at x. nat_eq x.at at) entries (c.self.inside.items ++ c.args.shaped ∷ [])) (sym entries) index)
