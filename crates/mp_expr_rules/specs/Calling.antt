@@ -1,10 +1,16 @@
 -- How calls and their parameters are seen by the rules.
-use Rattle.std.specs.Prelude.{List, Option, Some, None, option_map}
+use Rattle.std.specs.Prelude.{ℕ, not, ◌||◌, List, Option, Some, None, option_map}
 use Rattle.std.specs.List.{AllByRecursion}
 use Rattle.mp_tables.specs.declared.typed_expressions.TypedExpr.{TypedExpr}
 use Rattle.mp_tables.specs.declared.typed_expressions.TypedActual.{TypedActual}
 use Rattle.mp_tables.specs.PlainTypedExpressions.{PlainTypedActuals, plain_typed_expr, with_actual}
 use Rattle.mp_tables.specs.Standing.{Types, HeadingStands}
+use Rattle.mp_tables.specs.declared.types.TypeId.{TypeId}
+use Rattle.mp_tables.specs.declared.types.Typed.{Typed}
+use Rattle.mp_tables.specs.Reports.{Rule, pure, ◌>>=◌, ◌>>◌, report_if}
+use Rattle.mp_tables.specs.TypeRelations.{assignable, same, unless_missing}
+use Rattle.mp_tables.specs.Names as names
+use Rattle.mp_tables.specs.Variables as variable
 use Rattle.mp_tables.specs.Headings as heading
 use Rattle.mp_tables.specs.Calls as call
 use Rattle.mp_expr_rules.specs.declared.formals.FormalParameter.{FormalParameter}
@@ -30,6 +36,24 @@ judged_of j = record { first = j.first; value = expressed_of j.value; given = op
 abbrev pub added : PlainTypedActuals → Option (TypedActual TypedExpr) → PlainTypedActuals
 added more None = more
 added more (Some a) = with_actual plain_typed_expr a more
+
+-- an actual parameter without a width
+abbrev pub actual_of : ℕ → variable.Expressed → Option call.Given → call.Judged
+actual_of first value given = record { first = first; value = value; given = given; width = None }
+
+-- the type of a value parameter, for which a value of this type is checked
+abbrev pub value_check : Option TypeId → ℕ → Option Typed → Rule (Option Typed)
+value_check of first value = do
+  t ← names.typed_if of
+  report_if (not (unless_missing assignable value t)) 334 first
+  pure t
+
+-- what is checked of a variable that is passed
+abbrev pub variable_checks : names.Region → Option TypeId → ℕ → variable.Accessed → Rule (Unit {0})
+variable_checks r of first a = do
+  threatened ← variable.threat r first a.entire
+  report_if (not (threatened || unless_missing same (call.has_identity a.typed) of)) 342 first
+  report_if a.guarded 343 first
 
 -- ---- what stands
 

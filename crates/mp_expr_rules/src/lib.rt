@@ -5,7 +5,9 @@
 //! is exact against the definitions of `mp_tables`: what is found, which errors are reported, and what the scope is asked.
 #![tactic(auto)]
 
+mod actuals;
 mod calls;
+mod constants;
 mod fields;
 mod formals;
 mod judged;

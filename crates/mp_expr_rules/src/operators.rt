@@ -13,8 +13,8 @@ ghost use Rattle.mp_expr_rules.specs.Judged.{operated_of, resulting_of, value_of
 
 use crate::judged::{Operated, Resulting, Value, computed, wrong};
 use crate::names::report;
-use crate::nodes::{compare_node, in_node, not_node};
-use mp_ast::Operator;
+use crate::nodes::{compare_node, in_node, not_node, signed_node};
+use mp_ast::{Operator, SignKind};
 use mp_base::{MAXINT, Memory};
 use mp_layout::cells;
 use mp_scope::Scope;
@@ -219,6 +219,16 @@ pub fn negated<S: Scope>(
     }
     report(330, at, errors)?;
     Ok(wrong())
+}
+
+// ---- signs (ISO 7185, 6.7.2.2)
+
+// The value of a term behind a sign.
+fn signed_value(alloc: Global, kind: SignKind, node: TypedExpr) -> Result<Value, Memory>
+    ensures { IfOk result (λ v. value_of v ≡ variable.computed (Some rule.integer) (tree.Signed kind (plain_typed_expr node))) }
+{
+    let node = signed_node(alloc, kind, node)?;
+    Ok(computed(Some(integer()), node))
 }
 
 // ---- relational operators (ISO 7185, 6.7.2.5)
